@@ -1,0 +1,4 @@
+pub mod Model
+pub mod Words
+pub mod Steps
+pub mod Ranges
