@@ -1,0 +1,4 @@
+pub mod Any
+pub mod Changing
+pub mod Collecting
+pub mod Ramping

@@ -1,0 +1,9 @@
+pub mod Carrying
+pub mod Changes
+pub mod New
+pub mod Orders
+pub mod Parts
+pub mod Reads
+pub mod Round
+pub mod Words
+pub mod Writes
