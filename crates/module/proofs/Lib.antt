@@ -1,3 +1,4 @@
+pub mod Blocking
 pub mod Rounding
 pub mod Writing
 pub mod Zeroing

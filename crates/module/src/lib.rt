@@ -5,6 +5,12 @@ ghost use lib.ListN.{length};
 ghost use Rattle.std.specs.declared.result.Result.the-variants.{Ok};
 ghost use Rattle.module.specs.Rounds.{stepped, roundState, roundAnswer};
 ghost use Rattle.module.specs.State.{stateOf, newState, wordAnswer, writeState, writeAnswer, zeros};
+pub mod block;
+
+pub use block::Access;
+pub use block::BlockFault;
+pub use block::Kind;
+
 use registers::ModuleFault;
 use registers::fault::ModuleFaultFromStage;
 use stage::Stage;
