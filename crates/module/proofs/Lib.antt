@@ -1,4 +1,13 @@
 pub mod Blocking
+pub mod Listing
 pub mod Rounding
+pub mod WriteLawsHalves
+pub mod WriteLawsOrders
+pub mod WriteLawsOthers
+pub mod WriteLawsRefusals
+pub mod WriteLawsRequests
+pub mod WriteLawsSwitching
+pub mod WriteLawsValues
+pub mod WriteLawsWhole
 pub mod Writing
 pub mod Zeroing

@@ -1,3 +1,5 @@
+pub mod Answered
 pub mod Blocks
 pub mod Rounds
 pub mod State
+pub mod WriteLaws
