@@ -1,5 +1,8 @@
 pub mod Blocking
 pub mod Listing
+pub mod RoundLaws
+pub mod RoundLawsExamples
+pub mod RoundLawsSteps
 pub mod Rounding
 pub mod WriteLawsHalves
 pub mod WriteLawsOrders

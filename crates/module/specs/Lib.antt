@@ -1,5 +1,7 @@
 pub mod Answered
 pub mod Blocks
+pub mod RoundLaws
+pub mod RoundLawsExamples
 pub mod Rounds
 pub mod State
 pub mod WriteLaws

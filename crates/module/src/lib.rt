@@ -3,11 +3,13 @@ ghost use mathlib.Core.Path.{_≡_};
 ghost use Prim.Native.Nat.{_<_, _≤_};
 ghost use lib.ListN.{length};
 ghost use Rattle.std.specs.declared.result.Result.the-variants.{Ok};
+ghost use Rattle.module.specs.RoundLaws.{RoundLaws, EventsStay};
 ghost use Rattle.module.specs.Rounds.{stepped, roundState, roundAnswer};
 ghost use Rattle.module.specs.State.{stateOf, newState, wordAnswer, writeState, writeAnswer, zeros};
 pub mod block;
 pub mod laws;
 pub mod levels;
+pub mod round_laws;
 
 pub use block::Access;
 pub use block::BlockFault;
@@ -78,6 +80,8 @@ impl<S: Stage> Module<S> {
     ) -> Result<(), ModuleFault>
         ensures state { λ _. ⌜ stateOf levels (now (self .exit)) ≡ roundState (S·Stage .regulating) (stateOf levels (now (self .entry))) (now (conditions .entry)) (now (readings .entry)) ⌝ }
         ensures answer { λ r. ⌜ r ≡ roundAnswer (stateOf levels (now (self .entry))) (now (readings .entry)) ⌝ }
+        ensures laws { λ r. ⌜ (r ≡ Ok tt → RoundLaws (S·Stage .regulating) (stateOf levels (now (self .entry))) (now (conditions .entry)) (now (readings .entry)) (stateOf levels (now (self .exit)))) ⌝ }
+        ensures stays { λ _. ⌜ EventsStay (stateOf levels (now (self .entry))) (stateOf levels (now (self .exit))) ⌝ }
     {
         let count = self.stage.count();
         if readings.len() != count {

@@ -5,5 +5,6 @@ pub mod Orders
 pub mod Parts
 pub mod Reads
 pub mod Round
+pub mod RoundLaws
 pub mod Words
 pub mod Writes
