@@ -45,7 +45,7 @@ module _ (i : ℕ) (s t : State) (xs : List Access) (h : i < length xs) (moved :
   block-more b said =
       let lt : i < i + 1 = omega arith in
       let left : ahead (take (i + 1) (set xs i b)) (blockEnd (i + 1) t (drop (i + 1) (set xs i b))) ≡ ahead (take i xs ++ b ∷ []) (blockEnd (i + 1) (accessState s (getD xs i noAccess)) (drop (i + 1) xs)) =
-        rw (take-more-set xs i b h, drop-set-lt (i + 1) xs i b lt, moved) in
+      rw (take-more-set xs i b h, drop-set-lt (i + 1) xs i b lt, moved) in
       left ∙ ahead-push (take i xs) b _ ∙ sym (ap (ahead (take i xs)) (rest (Ok b) said))
 
   pub block-stops : (f : ModuleFault) → Err f ≡ accessAnswer s (getD xs i noAccess)

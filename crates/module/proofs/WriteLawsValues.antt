@@ -58,7 +58,7 @@ not-nan low nan high e = absurd (false≢true (and-parts (le low nan) (le nan hi
 not-nan low (inf s) high e = tt
 not-nan low (fin s m d) high e = tt
 
-bits-back : (u l : ℕ) (low high : Float) → u < 65536 → l < 65536 → within low (valueOf u l) high ≡ true → toBits binary32 (valueOf u l) ≡ pattern u l
+pub bits-back : (u l : ℕ) (low high : Float) → u < 65536 → l < 65536 → within low (valueOf u l) high ≡ true → toBits binary32 (valueOf u l) ≡ pattern u l
 bits-back u l low high U L e = toBits-ofBits binary32 (pattern u l) (omega arith) (not-nan low (valueOf u l) high e)
 
 -- ---- what the order of a value leaves at its register

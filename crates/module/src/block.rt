@@ -31,12 +31,18 @@ pub impl From<(usize, ModuleFault)> for BlockFault as BlockFaultFromModule {
     ghost converts = { λ f r. r ≡ blockFault (f .0) (f .1) };
 
     fn from(f: (usize, ModuleFault)) -> BlockFault {
-        BlockFault { index: f.0, fault: f.1 }
+        BlockFault {
+            index: f.0,
+            fault: f.1,
+        }
     }
 }
 
 // A refusal with the index of its access.
-fn at_index(index: usize, answer: Result<Access, ModuleFault>) -> Result<Access, (usize, ModuleFault)>
+fn at_index(
+    index: usize,
+    answer: Result<Access, ModuleFault>,
+) -> Result<Access, (usize, ModuleFault)>
     ensures { λ r. ⌜ r ≡ numbered index answer ⌝ }
 {
     match answer {
@@ -54,7 +60,11 @@ impl<S: Stage> Module<S> {
         match access.kind {
             Kind::Read => {
                 let word = self.read(access.offset)?;
-                Ok(Access { kind: Kind::Read, offset: access.offset, word })
+                Ok(Access {
+                    kind: Kind::Read,
+                    offset: access.offset,
+                    word,
+                })
             }
             Kind::Write => {
                 self.write(access.offset, access.word)?;

@@ -6,6 +6,7 @@ ghost use Rattle.std.specs.declared.result.Result.the-variants.{Ok};
 ghost use Rattle.module.specs.RoundLaws.{RoundLaws, EventsStay};
 ghost use Rattle.module.specs.Rounds.{stepped, roundState, roundAnswer};
 ghost use Rattle.module.specs.State.{stateOf, newState, wordAnswer, writeState, writeAnswer, zeros};
+
 pub mod block;
 pub mod laws;
 pub mod levels;
@@ -15,7 +16,6 @@ pub use block::Access;
 pub use block::BlockFault;
 pub use block::Kind;
 pub use levels::Levels;
-
 use registers::ModuleFault;
 use registers::fault::ModuleFaultFromStage;
 use stage::Stage;

@@ -18,11 +18,11 @@ returns-in-Break-list g c =
     let refused = numbered-err (c .loop-index .index) (c .access .result) e (sym (c .at-index .ensures) ∙ c .in-Break-list .was tt) in
     let turned = err-from-errBy (c .from-residual .result) (c .from-residual .ensures .1) in
     let answer : c .from-residual .result ≡ Err (blockFault (c .loop-index .index) (e .1)) =
-      turned .1 ∙ ap Err (turned .2 ∙ ap (λ (q : ℕ × ModuleFault). blockFault (q .0) (q .1)) (sym (refused .1))) in
+    turned .1 ∙ ap Err (turned .2 ∙ ap (λ (q : ℕ × ModuleFault). blockFault (q .0) (q .1)) (sym (refused .1))) in
     record {
       end = ap (endOf (stateOf lv (c .access .last .self)) (c .loop-index .list)) answer
-        ∙ block-stops (c .loop-index .index) (stateOf lv (c .loop-index .self)) (stateOf lv (c .access .last .self)) (c .loop-index .list) (omega arith) (c .access .ensures .state) (e .1) (sym (refused .0) ∙ c .access .ensures .answer)
-        ∙ c .loop-index .inv;
+          ∙ block-stops (c .loop-index .index) (stateOf lv (c .loop-index .self)) (stateOf lv (c .access .last .self)) (c .loop-index .list) (omega arith) (c .access .ensures .state) (e .1) (sym (refused .0) ∙ c .access .ensures .answer)
+          ∙ c .loop-index .inv;
     }
 
 pub loop-index-again : need.loop-index-again

@@ -7,7 +7,7 @@ use Rattle.table.specs.declared.records.Table.{Table}
 use Rattle.table.specs.Round.{begun, passOf}
 use Rattle.module.specs.State.{State, stateOf}
 use Rattle.module.specs.Rounds.{steppedFrom}
-use Rattle.module.proofs.Rounding.{limit-low, step-more, step-all, step-length, answer-done, state-done, noReading}
+use Rattle.module.proofs.Rounding.{limit-low, step-more, step-all, step-length, answer-done, state-done}
 use Rattle.module.proofs.RoundLaws.{round-laws, round-stays, refused-stays, refused-not-accepted}
 use Rattle.module.proofs.Module.round.Needs as need
 

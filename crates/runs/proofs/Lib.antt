@@ -1,0 +1,10 @@
+pub mod Histories
+pub mod Keeping
+pub mod Lawful
+pub mod Rounded
+pub mod Safety
+pub mod Sources
+pub mod Telling
+pub mod Touching
+pub mod Turning
+pub mod Wrote
