@@ -9,12 +9,9 @@ use Rattle.std.specs.declared.result.Result.{Result}
 use Rattle.std.specs.declared.result.Result.the-variants.{Ok, Err}
 use Rattle.registers.specs.declared.fault.ModuleFault.{ModuleFault}
 use Rattle.module.specs.declared.block.Access.{Access}
-use Rattle.module.specs.declared.block.Kind.the-variants.{Read}
 use Rattle.module.specs.State.{State}
+use Rattle.module.specs.BlockLaws.{noAccess}
 use Rattle.module.specs.Blocks.{BlockEnd, blockFault, numbered, accessState, accessAnswer, endOf, behind, goesOn, blockEnd}
-
-abbrev pub noAccess : Access
-noAccess = record { kind = Read; offset = 0; word = 0 }
 
 -- what a block comes to whose front is done already
 abbrev pub ahead : List Access → BlockEnd → BlockEnd

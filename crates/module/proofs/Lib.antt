@@ -1,3 +1,4 @@
+pub mod BlockLaws
 pub mod Blocking
 pub mod Listing
 pub mod RoundLaws

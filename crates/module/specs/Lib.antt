@@ -1,4 +1,5 @@
 pub mod Answered
+pub mod BlockLaws
 pub mod Blocks
 pub mod RoundLaws
 pub mod RoundLawsExamples

@@ -2,6 +2,7 @@
 ghost use mathlib.Core.Path.{_≡_};
 ghost use lib.ListN.{length};
 ghost use Rattle.module.specs.State.{stateOf};
+ghost use Rattle.module.specs.BlockLaws.{BlockLaw};
 ghost use Rattle.module.specs.Blocks.{blockFault, numbered, accessState, accessAnswer, endOf, blockEnd};
 use crate::Module;
 use registers::ModuleFault;
@@ -76,6 +77,7 @@ impl<S: Stage> Module<S> {
     // How many accesses were done; at a refusal, that record and later ones keep their words.
     pub fn block(&mut self, list: &mut [Access]) -> Result<usize, BlockFault>
         ensures end { λ r. ⌜ endOf (stateOf levels (now (self .exit))) (now (list .exit)) r ≡ blockEnd 0 (stateOf levels (now (self .entry))) (now (list .entry)) ⌝ }
+        ensures law { λ r. ⌜ BlockLaw (stateOf levels (now (self .entry))) (now (list .entry)) (endOf (stateOf levels (now (self .exit))) (now (list .exit)) r) r ⌝ }
     {
         for index in 0..list.len() {
             list[index] = at_index(index, self.access(list[index]))?;

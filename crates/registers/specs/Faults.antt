@@ -1,11 +1,12 @@
 -- The number of each refusal, and what it carries.
+use mathlib.Core.Path.{_≡_}
 use Prim.Native.Nat.{ℕ}
 use Rattle.stage.specs.declared.fault.StageFault.{StageFault}
 use Rattle.stage.specs.Levels.{stageFaultNumber}
 use Rattle.registers.specs.declared.fault.ModuleFault.{ModuleFault}
 use Rattle.registers.specs.declared.fault.ModuleFault.the-variants as fault
 
--- an offset, the number of readings or of bytes, the channel asked for, or the stage's fault whole
+-- what a fault carries: an offset, the number of readings or of bytes, the channel asked for, or the stage's fault whole
 pub data Carried : Type 0 where
   offset : ℕ → Carried
   readings : ℕ → Carried
@@ -25,17 +26,17 @@ number (fault.Readings n) = 7
 number (fault.ImageLength n) = 8
 number (fault.Stage f) = stageFaultNumber
 
-abbrev pub carried : ModuleFault → Carried
-carried (fault.Outside o) = offset o
-carried (fault.EmptyPlace o) = offset o
-carried (fault.NoChannel k) = channel k
-carried (fault.ReadOnly o) = offset o
-carried (fault.UpperNotHeld o) = offset o
-carried (fault.NotAdmitted o) = offset o
-carried (fault.Blocked o) = offset o
-carried (fault.Readings n) = readings n
-carried (fault.ImageLength n) = bytes n
-carried (fault.Stage f) = whole f
+abbrev pub carries : ModuleFault → Carried
+carries (fault.Outside o) = offset o
+carries (fault.EmptyPlace o) = offset o
+carries (fault.NoChannel k) = channel k
+carries (fault.ReadOnly o) = offset o
+carries (fault.UpperNotHeld o) = offset o
+carries (fault.NotAdmitted o) = offset o
+carries (fault.Blocked o) = offset o
+carries (fault.Readings n) = readings n
+carries (fault.ImageLength n) = bytes n
+carries (fault.Stage f) = whole f
 
 -- the refusal that each number stands for, with what it carries
 
@@ -78,3 +79,22 @@ refusal-8 n = fault.ImageLength n
 -- the output stage refuses
 abbrev pub refusal-9 : StageFault → ModuleFault
 refusal-9 f = fault.Stage f
+
+-- the refusal has this number and carries this
+abbrev pub Numbered : ModuleFault → ℕ → Carried → Type 0
+Numbered f n x = (number f ≡ n) × (carries f ≡ x)
+
+-- each refusal has its own number and carries what it was made with
+pub record NumbersStand : Type 0 where
+  pub outside : (o : ℕ) → Numbered (refusal-1 o) 1 (offset o)
+  pub empty-place : (o : ℕ) → Numbered (refusal-2 o) 2 (offset o)
+  pub no-channel : (k : ℕ) → Numbered (refusal-2-channel k) 2 (channel k)
+  pub read-only : (o : ℕ) → Numbered (refusal-3 o) 3 (offset o)
+  pub upper-not-held : (o : ℕ) → Numbered (refusal-4 o) 4 (offset o)
+  pub not-admitted : (o : ℕ) → Numbered (refusal-5 o) 5 (offset o)
+  pub blocked : (o : ℕ) → Numbered (refusal-6 o) 6 (offset o)
+  pub count-of-readings : (n : ℕ) → Numbered (refusal-7 n) 7 (readings n)
+  pub length-of-image : (n : ℕ) → Numbered (refusal-8 n) 8 (bytes n)
+  pub stage-refuses : (f : StageFault) → Numbered (refusal-9 f) 9 (whole f)
+  -- no two refusals are told alike
+  pub apart : (f g : ModuleFault) → number f ≡ number g → carries f ≡ carries g → f ≡ g

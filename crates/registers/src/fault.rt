@@ -1,7 +1,7 @@
 // How a module refuses: a number, and what it carries.
 ghost use mathlib.Core.Path.{_≡_};
 ghost use Rattle.registers.specs.Faults as Faults;
-ghost use Rattle.registers.specs.Faults.{refusal-9};
+ghost use Rattle.registers.specs.Faults.{refusal-9, NumbersStand};
 use stage::StageFault;
 
 #[derive(Clone, Copy)]
@@ -53,3 +53,8 @@ pub impl From<StageFault> for ModuleFault as ModuleFaultFromStage {
         ModuleFault::Stage(fault)
     }
 }
+
+// Each refusal has its own number and carries what it was made with.
+pub fn numbers_stand()
+    ensures { λ _. ⌜ NumbersStand ⌝ }
+{}

@@ -29,7 +29,8 @@ use Rattle.module.specs.WriteLaws.{Whole}
 use Rattle.module.proofs.WriteLawsOthers.{count-after}
 use Rattle.module.proofs.WriteLawsWhole.{stays-whole}
 use Rattle.runs.specs.History.{Event, read, write, round, eventState, after}
-use Rattle.runs.specs.Law.{noEvent, levelOf, voltageSet, IsWrite, Joined, FromHalves, limitOf, limitAfter, latestLimit, Leave, Kills, Restored, noReading, overAny, stateAt, Safe}
+use Rattle.runs.specs.Law.{noEvent, levelOf, voltageSet, IsWrite, Joined, FromHalves, limitOf, limitAfter, latestLimit, Leave, Kills, Restored, noReading, overAny, Gathered, stateAt, Safe}
+use Rattle.runs.proofs.Gathering.{new-gathered, wrote-gathered, round-gathered}
 use Rattle.runs.proofs.Histories.{EventTrue, Truthful, after-append, after-more, event-true, true-take}
 use Rattle.runs.proofs.Keeping.{more, more-length, more-old, more-new, limit-more, HeldFrom, held-more, held-new, halves-more, joined-new, Down, down, cleared, restored, stays-down, wrote-down}
 use Rattle.runs.proofs.Wrote.{Wrote, wrote, wrote-held, level-falls}
@@ -46,6 +47,7 @@ module _ (b : Bool) (m : Model) (n : ℕ) where
   pub record Inv (g : List Event) (s : State) : Type 0 where
     pub whole : Whole s
     pub counted : count s ≡ n
+    pub gathered : Gathered s
     pub held : (a u : ℕ) → s .table .held ≡ Upper a u → HeldFrom g a u
     pub values : (k : ℕ) → k < n → FromHalves g k (voltageSet s k)
     pub limited : (k : ℕ) → levelOf s k ≤ latestLimit 0 g
@@ -73,6 +75,7 @@ module _ (b : Bool) (m : Model) (n : ℕ) where
   start few = record {
     whole = stays-whole .new m n few;
     counted = length-replicate {A = ℕ} n 0;
+    gathered = new-gathered m n;
     held = λ a u e. let z : _≡_ {A = ℕ} 0 1 = cc in absurd (omega arith);
     values = λ k h. inl (value-new k (omega arith));
     limited = λ k. omega (arith, level-new k);
@@ -109,6 +112,7 @@ module _ (b : Bool) (m : Model) (n : ℕ) where
     quiet e no-write no-kill same = record {
       whole = inv .whole;
       counted = inv .counted;
+      gathered = inv .gathered;
       held = λ a u h. held-more g e a u no-write (inv .held a u h);
       values = λ k h. halves-more g e k _ (inv .values k h);
       limited = λ k. omega (arith, inv .limited k, limit-more 0 g e, same);
@@ -131,6 +135,7 @@ module _ (b : Bool) (m : Model) (n : ℕ) where
     by-write o w r said = record {
       whole = stays-whole .written s o w (inv .whole);
       counted = count-after s o w ∙ inv .counted;
+      gathered = wrote-gathered s o w;
       held = λ a u h. elim (wrote-held s o w) [
         | inl none ↦ absurd (no-half (writeState s o w .table .held) a u none h)
         | inr holds ↦
@@ -174,6 +179,7 @@ module _ (b : Bool) (m : Model) (n : ℕ) where
       by-accepted = record {
         whole = round-whole b s x rs each (inv .whole);
         counted = round-count b s x rs each ∙ inv .counted;
+        gathered = round-gathered b s x rs each;
         held = λ a u h. held-more g e a u (λ z. z) (inv .held a u (sym (round-held b s x rs each) ∙ h));
         values = λ k h. elim (round-voltage b s x rs each (inv .whole) k (omega (arith, inv .counted))) [
           | inl same ↦ subst (FromHalves (more g e) k) (sym same) (halves-more g e k _ (inv .values k h))

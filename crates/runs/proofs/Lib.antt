@@ -1,3 +1,4 @@
+pub mod Gathering
 pub mod Histories
 pub mod Keeping
 pub mod Lawful

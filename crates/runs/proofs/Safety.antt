@@ -94,4 +94,5 @@ module _ (b : Bool) (m : Model) (n : ℕ) where
       limited = λ p k l. inv-at p .limited k;
       raised = raised-at;
       killed = killed-at;
+      gathered = λ p l. inv-at p .gathered;
     }

@@ -22,7 +22,8 @@ use Rattle.table.specs.Changes.{blocked}
 use Rattle.table.specs.Orders.{setsEmergency, setsOn}
 use Rattle.table.specs.Reads.{channelOf}
 use Rattle.table.specs.Round.{begun, excessOf, judged}
-use Rattle.module.specs.State.{State, newState}
+use Rattle.table.specs.Writes.{collected}
+use Rattle.module.specs.State.{State, count, newState}
 use Rattle.module.specs.Rounds.{roundPass}
 use Rattle.runs.specs.Calls.{Asked, Told, runState}
 use Rattle.runs.specs.History.{Event, read, write, round, history, after}
@@ -140,6 +141,12 @@ pub record Restored (h : List Event) (i p k : ℕ) : Type 0 where
   pub clears : Clears (getD h cleared noEvent)
   pub switches : SwitchesOn (getD h switched noEvent) k
 
+-- ---- collected events
+
+-- 08 has the bit of every channel that has an event that passes its mask: collecting again changes nothing
+abbrev pub Gathered : State → Type 0
+Gathered s = collected (count s) (s .table) ≡ s .table
+
 -- ---- the law
 
 -- the state of a new module of n channels after the first p events of the history h
@@ -159,6 +166,8 @@ pub record Safe (regulates : Bool) (m : Model) (n : ℕ) (h : List Event) : Type
   pub killed : (i p k : ℕ) → i < p → p ≤ length h → k < n
       → Kills regulates (stateAt regulates m n h i) (getD h i noEvent) k
       → (levelOf (stateAt regulates m n h p) k ≡ 0) ⊎ Restored h i p k
+  -- after every access and round the channel events are collected, so a read has nothing to collect
+  pub gathered : (p : ℕ) → p ≤ length h → Gathered (stateAt regulates m n h p)
 
 -- the history tells the states of the run: the events of the first q calls lead to the state after them
 abbrev pub Tells : Bool → Model → ℕ → List Asked → List Told → Type 0

@@ -8,6 +8,7 @@ use Rattle.std.specs.declared.result.Result.the-variants.{Ok, Err}
 use Rattle.module.specs.declared.block.BlockFault.{BlockFault}
 use Rattle.module.specs.State.{stateOf}
 use Rattle.module.specs.Blocks.{endOf, blockFault}
+use Rattle.module.proofs.BlockLaws.{block-lawful}
 use Rattle.module.proofs.Blocking.{numbered-ok, numbered-err, block-more, block-stops, block-all}
 use Rattle.module.proofs.Module.block.Needs as need
 
@@ -19,11 +20,11 @@ returns-in-Break-list g c =
     let turned = err-from-errBy (c .from-residual .result) (c .from-residual .ensures .1) in
     let answer : c .from-residual .result ≡ Err (blockFault (c .loop-index .index) (e .1)) =
     turned .1 ∙ ap Err (turned .2 ∙ ap (λ (q : ℕ × ModuleFault). blockFault (q .0) (q .1)) (sym (refused .1))) in
-    record {
-      end = ap (endOf (stateOf lv (c .access .last .self)) (c .loop-index .list)) answer
-          ∙ block-stops (c .loop-index .index) (stateOf lv (c .loop-index .self)) (stateOf lv (c .access .last .self)) (c .loop-index .list) (omega arith) (c .access .ensures .state) (e .1) (sym (refused .0) ∙ c .access .ensures .answer)
-          ∙ c .loop-index .inv;
-    }
+    let end =
+    ap (endOf (stateOf lv (c .access .last .self)) (c .loop-index .list)) answer
+    ∙ block-stops (c .loop-index .index) (stateOf lv (c .loop-index .self)) (stateOf lv (c .access .last .self)) (c .loop-index .list) (omega arith) (c .access .ensures .state) (e .1) (sym (refused .0) ∙ c .access .ensures .answer)
+    ∙ c .loop-index .inv in
+    record { end = end; law = block-lawful (stateOf lv (c .args .self .now)) (c .args .list .now) (endOf (stateOf lv (c .access .last .self)) (c .loop-index .list) (c .from-residual .result)) end }
 
 pub loop-index-again : need.loop-index-again
 loop-index-again g c =
@@ -35,4 +36,5 @@ loop-index-again g c =
 pub returns : need.returns
 returns g c =
     let lv = g .S·Stage .levels in
-    record { end = block-all (c .loop-index .index) (stateOf lv (c .loop-index .self)) (c .loop-index .list) (omega arith) ∙ c .loop-index .inv }
+    let end = block-all (c .loop-index .index) (stateOf lv (c .loop-index .self)) (c .loop-index .list) (omega arith) ∙ c .loop-index .inv in
+    record { end = end; law = block-lawful (stateOf lv (c .args .self .now)) (c .args .list .now) _ end }
