@@ -11,7 +11,7 @@ use Rattle.module.specs.declared.block.Access.{Access}
 use Rattle.module.specs.declared.block.BlockFault.{BlockFault}
 use Rattle.module.specs.State.{State}
 use Rattle.module.specs.Blocks.{BlockEnd, blockFault, endOf, behind, goesOn, accessState, accessAnswer, blockEnd}
-use Rattle.module.specs.BlockLaws.{noAccess, stateAfter, Leaves, Done, DoneAll, Stopped, BlockLaw}
+use Rattle.module.specs.BlockLaws.{noAccess, stateAfter, Leaves, Done, BlockLaw}
 
 -- the law of the accesses from index j on
 abbrev From : ℕ → State → List Access → BlockEnd → Result ℕ BlockFault → Type 0

@@ -1,15 +1,13 @@
 -- Lemmas on the loop of a round over the readings.
-use mathlib.Core.Path.{_≡_, refl, sym, ap, subst, _∙_}
+use mathlib.Core.Path.{_≡_, sym, ap, subst, _∙_}
 use mathlib.Core.Bool.{Bool, false}
-use mathlib.Core.List.{List, [], _∷_}
+use mathlib.Core.List.{List}
 use Prim.Native.Nat.{ℕ, _+_, _<_, _≤_}
-use native.Mathlib.Omega.{arith}
 use lib.Ieee.{nan}
 use lib.ListN.{length, drop, getD, length-set}
 use Rattle.std.proofs.shelf.Lists.{at-drop-more, at-drop-all}
 use Rattle.std.proofs.shelf.Tests.{eq-eqb, cond-true}
 use Rattle.std.specs.declared.result.Result.the-variants.{Ok}
-use Rattle.values.specs.Steps.{limitSteps}
 use Rattle.values.proofs.Limits.{limit-steps-stored}
 use Rattle.table.specs.declared.records.Conditions.{Conditions}
 use Rattle.table.specs.declared.records.Table.{Table}

@@ -9,7 +9,6 @@ use Rattle.std.specs.declared.result.Result.the-variants.{Ok, Err}
 use Rattle.stage.specs.declared.fault.StageFault.{StageFault}
 use Rattle.stage.specs.Levels.{driven, driveAnswer}
 use Rattle.stage.proofs.Driving.{driven-can, drive-answer-can}
-use Rattle.registers.specs.declared.fault.ModuleFault.{ModuleFault}
 use Rattle.table.specs.declared.carrying.Drive.{Drive}
 use Rattle.table.specs.declared.carrying.Drive.the-variants.{ToZero}
 use Rattle.table.specs.declared.records.Table.{Table}

@@ -9,7 +9,6 @@ use Rattle.std.specs.declared.result.Result.the-variants.{Ok, Err}
 use Rattle.registers.specs.declared.fault.ModuleFault.{ModuleFault}
 use Rattle.registers.specs.Faults.{refusal-7}
 use Rattle.table.specs.declared.records.Conditions.{Conditions}
-use Rattle.table.specs.declared.records.Table.{Table}
 use Rattle.table.specs.declared.round.Pass.{Pass}
 use Rattle.table.specs.declared.round.Reading.{Reading}
 use Rattle.table.specs.Parts.{withChannel}

@@ -1,6 +1,5 @@
 // A block: a lent list of accesses, done in order up to the first refusal.
 ghost use mathlib.Core.Path.{_≡_};
-ghost use lib.ListN.{length};
 ghost use Rattle.module.specs.State.{stateOf};
 ghost use Rattle.module.specs.BlockLaws.{BlockLaw};
 ghost use Rattle.module.specs.Blocks.{blockFault, numbered, accessState, accessAnswer, endOf, blockEnd};

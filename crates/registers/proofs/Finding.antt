@@ -1,16 +1,12 @@
 -- Lemmas on the register map.
-use mathlib.Core.Path.{_≡_, refl, sym, ap, _∙_}
-use mathlib.Core.Bool.{cond, true, false}
-use mathlib.Core.List.{List, [], _∷_}
-use mathlib.Core.Logic.{_⊎_, inl, inr}
-use Prim.Native.Nat.{ℕ, _+_, _-_, _*_, _/_, _%_, _<_, _≤_}
+use mathlib.Core.Path.{_≡_, sym, _∙_}
+use mathlib.Core.Bool.{cond}
+use Prim.Native.Nat.{ℕ, _-_, _<_, _≤_}
 use native.Mathlib.Omega.{arith}
-use lib.Dec.{eqb, ltb}
-use Rattle.std.proofs.shelf.Tests.{lt-ltb, le-ltb, eqb-true, cases-bool, cond-true, cond-false}
-use Rattle.std.specs.declared.option.Option.{Option}
-use Rattle.std.specs.declared.option.Option.the-variants.{Some, None}
-use Rattle.registers.specs.declared.place.Place.{Place}
-use Rattle.registers.specs.Map.{Row, standsIn, moduleRows, channelRows, groupRows, channelAt, withinChannel, placeAt}
+use lib.Dec.{ltb}
+use Rattle.std.proofs.shelf.Tests.{lt-ltb, le-ltb, cond-true, cond-false}
+use Rattle.std.specs.declared.option.Option.the-variants.{None}
+use Rattle.registers.specs.Map.{standsIn, moduleRows, channelRows, groupRows, channelAt, withinChannel, placeAt}
 
 module _ (n o : ℕ) where
   pub in-module : o < 0x60 → standsIn moduleRows o ≡ placeAt n o

@@ -2,16 +2,14 @@
 use mathlib.Core.Path.{_≡_, refl, sym, ap, _∙_}
 use mathlib.Core.Bool.{Bool, cond, true, false}
 use mathlib.Core.List.{List, [], _∷_}
-use mathlib.Core.Logic.{_⊎_, inl, inr}
-use Prim.Native.Nat.{ℕ, _+_, _-_, _*_, _/_, _%_, _<_, _≤_}
+use mathlib.Core.Logic.{inl, inr}
+use Prim.Native.Nat.{ℕ, _+_, _-_, _%_, _<_, _≤_}
 use native.Mathlib.Omega.{arith}
 use lib.Dec.{eqb, ltb}
-use Rattle.std.proofs.shelf.Tests.{lt-ltb, eqb-true, ne-eqb, le-ltb, cases-bool, cases-lt, cond-true, cond-false, or-from}
+use Rattle.std.proofs.shelf.Tests.{eqb-true, ne-eqb, le-ltb, cases-bool, cases-lt, cond-true, cond-false, or-from}
 use Rattle.std.specs.declared.option.Option.{Option}
 use Rattle.std.specs.declared.option.Option.the-variants.{Some, None}
-use Rattle.std.specs.declared.result.Result.{Result}
 use Rattle.std.specs.declared.result.Result.the-variants.{Ok, Err}
-use Rattle.registers.specs.declared.fault.ModuleFault.{ModuleFault}
 use Rattle.registers.specs.declared.place.ModuleWord.the-variants as mw
 use Rattle.registers.specs.declared.place.ModuleValue.the-variants as mv
 use Rattle.registers.specs.declared.place.ChannelWord.the-variants as cw

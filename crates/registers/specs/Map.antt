@@ -1,5 +1,4 @@
 -- The register map: what stands at each offset of a module of n channels.
-use mathlib.Core.Path.{_≡_}
 use mathlib.Core.Bool.{Bool, cond, _||_}
 use mathlib.Core.List.{List, [], _∷_, _++_}
 use Prim.Native.Nat.{ℕ, _+_, _-_, _*_, _/_, _%_, _<_}
@@ -9,15 +8,10 @@ use Rattle.std.specs.declared.option.Option.the-variants.{Some, None}
 use Rattle.std.specs.declared.result.Result.{Result}
 use Rattle.std.specs.declared.result.Result.the-variants.{Ok, Err}
 use Rattle.registers.specs.declared.fault.ModuleFault.{ModuleFault}
-use Rattle.registers.specs.declared.place.ModuleWord.{ModuleWord}
 use Rattle.registers.specs.declared.place.ModuleWord.the-variants as mw
-use Rattle.registers.specs.declared.place.ModuleValue.{ModuleValue}
 use Rattle.registers.specs.declared.place.ModuleValue.the-variants as mv
-use Rattle.registers.specs.declared.place.ChannelWord.{ChannelWord}
 use Rattle.registers.specs.declared.place.ChannelWord.the-variants as cw
-use Rattle.registers.specs.declared.place.ChannelValue.{ChannelValue}
 use Rattle.registers.specs.declared.place.ChannelValue.the-variants as cv
-use Rattle.registers.specs.declared.place.GroupValue.{GroupValue}
 use Rattle.registers.specs.declared.place.GroupValue.the-variants as gv
 use Rattle.registers.specs.declared.place.WordRegister.{WordRegister}
 use Rattle.registers.specs.declared.place.WordRegister.the-variants as wr
@@ -88,7 +82,7 @@ abbrev pub standsIn : List Row → ℕ → Option Place
 standsIn [] o = None
 standsIn (r ∷ rs) o = cond (eqb o (r .offset)) (Some (r .stands)) (standsIn rs o)
 
--- channel k begins at 60 + k × 30, and each has 30 bytes
+-- channel k begins at 60 + k × 30, hexadecimal, and has 48 bytes
 abbrev pub channelBegins : ℕ → ℕ
 channelBegins k = 0x60 + k * 0x30
 

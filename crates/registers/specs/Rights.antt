@@ -1,6 +1,5 @@
 -- Which registers may be written. The others are read only.
 use mathlib.Core.Bool.{Bool, true, false}
-use Prim.Native.Nat.{ℕ}
 use Rattle.registers.specs.declared.place.ModuleWord.{ModuleWord}
 use Rattle.registers.specs.declared.place.ModuleWord.the-variants as mw
 use Rattle.registers.specs.declared.place.ModuleValue.{ModuleValue}

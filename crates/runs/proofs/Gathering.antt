@@ -1,13 +1,12 @@
 -- After a write and after a round nothing is left to collect.
 use mathlib.Core.Path.{_≡_, refl, sym, ap, _∙_}
 use mathlib.Core.Bool.{Bool}
-use mathlib.Core.List.{List, [], _∷_}
+use mathlib.Core.List.{List}
 use Prim.Native.Nat.{ℕ, zero, suc, _+_, _*_, min}
 use native.Mathlib.Omega.{arith}
 use lib.Bits.{bitAnd, bitOr, and-comm, or-comm, or-add-and}
 use lib.ListN.{length, take, replicate}
 use Rattle.values.specs.declared.model.Model.{Model}
-use Rattle.table.specs.declared.records.Channel.{Channel}
 use Rattle.table.specs.declared.records.Conditions.{Conditions}
 use Rattle.table.specs.declared.records.Table.{Table}
 use Rattle.table.specs.declared.round.Reading.{Reading}
@@ -17,10 +16,10 @@ use Rattle.table.specs.Reads.{placed}
 use Rattle.table.specs.Writes.{passing, collected, requested, served}
 use Rattle.table.proofs.RoundLawsBits.{kept-or, kept-self}
 use Rattle.module.specs.State.{State, count, newState, writeState}
-use Rattle.module.specs.Rounds.{steppedFrom, begunState, roundPass, accepted, roundState}
+use Rattle.module.specs.Rounds.{steppedFrom, begunState, roundPass, roundState}
 use Rattle.module.proofs.WriteLawsOthers.{count-after}
 use Rattle.runs.specs.Law.{Gathered}
-use Rattle.runs.proofs.Rounded.{is-accepted, round-count}
+use Rattle.runs.proofs.Rounded.{is-accepted}
 
 or-again : (a p : ℕ) → bitOr (bitOr a p) p ≡ bitOr a p
 or-again a p =

@@ -1,39 +1,27 @@
 -- What every event keeps of a run: g is the history so far and s the state after it.
 use mathlib.Core.Path.{_≡_, refl, sym, ap, subst, _∙_}
-use mathlib.Core.Bool.{Bool, true, false}
+use mathlib.Core.Bool.{true, false}
 use mathlib.Core.List.{List, [], _∷_, _++_}
-use mathlib.Core.Logic.{_⊎_, inl, inr}
-use Prim.Native.Nat.{ℕ, zero, suc, _+_, _<_, _≤_}
+use mathlib.Core.Logic.{inl, inr}
+use Prim.Native.Nat.{ℕ, zero, _+_, _<_, _≤_}
 use native.Mathlib.Omega.{arith}
 use lib.Ieee.{Float, binary32, toBits}
-use lib.ListN.{length, getD, take}
+use lib.ListN.{length, getD}
 use Rattle.std.proofs.shelf.Lists.{length-append, getD-append-left}
 use Rattle.std.proofs.shelf.Tests.{both-ways, cases-lt}
 use Rattle.std.specs.declared.result.Result.{Result}
-use Rattle.std.specs.declared.result.Result.the-variants.{Ok, Err}
+use Rattle.std.specs.declared.result.Result.the-variants.{Ok}
 use Rattle.values.specs.Ranges as Ranges
-use Rattle.values.specs.Ranges.{voltageAdmitted}
 use Rattle.values.specs.Model.{nominalVoltage}
 use Rattle.values.specs.Words.{pattern, valueOf, upperWord, lowerWord}
 use Rattle.registers.specs.declared.fault.ModuleFault.{ModuleFault}
-use Rattle.registers.specs.Map.{channelBegins}
 use Rattle.table.specs.declared.records.Channel.{Channel}
-use Rattle.table.specs.declared.records.Conditions.{Conditions}
-use Rattle.table.specs.declared.records.Held.{Held}
-use Rattle.table.specs.declared.records.Held.the-variants.{Nothing, Upper}
-use Rattle.table.specs.declared.round.Reading.{Reading}
-use Rattle.table.specs.Reads.{channelOf}
-use Rattle.module.specs.State.{State, count, writeState, writeAnswer}
-use Rattle.module.specs.Rounds.{roundState, roundAnswer}
-use Rattle.module.specs.WriteLaws.{Whole}
-use Rattle.module.proofs.WriteLawsOthers.{count-after}
+use Rattle.table.specs.declared.records.Held.the-variants.{Upper}
+use Rattle.module.specs.State.{State}
 use Rattle.module.proofs.WriteLawsValues.{bits-back}
-use Rattle.module.proofs.WriteLawsWhole.{stays-whole}
-use Rattle.runs.specs.History.{Event, read, write, round, eventState}
-use Rattle.runs.specs.Law.{noEvent, levelOf, voltageSet, IsWrite, Joined, FromHalves, limitOf, limitAfter, latestLimit, Clears, SwitchesOn, Restored}
-use Rattle.runs.proofs.Histories.{EventTrue}
-use Rattle.runs.proofs.Wrote.{Completes, Wrote, wrote, wrote-held, level-falls}
-use Rattle.runs.proofs.Rounded.{round-refused, round-each, round-held, round-count, round-whole, round-limited, round-voltage, round-kill, round-off, round-down}
+use Rattle.runs.specs.History.{Event, write}
+use Rattle.runs.specs.Law.{noEvent, IsWrite, Joined, FromHalves, limitAfter, latestLimit, Clears, SwitchesOn, Restored}
+use Rattle.runs.proofs.Wrote.{Completes, Wrote}
 
 -- ---- one event more
 

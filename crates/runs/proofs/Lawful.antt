@@ -1,13 +1,13 @@
 -- The law over every run: it holds of a new module, and every event keeps it.
 use mathlib.Core.Path.{_≡_, refl, sym, ap, subst, _∙_}
-use mathlib.Core.Bool.{Bool, true, false}
-use mathlib.Core.List.{List, [], _∷_, _++_}
-use mathlib.Core.Logic.{_⊎_, inl, inr}
+use mathlib.Core.Bool.{Bool, true}
+use mathlib.Core.List.{List, [], _∷_}
+use mathlib.Core.Logic.{inl, inr}
 use Prim.Native.Nat.{ℕ, zero, suc, _+_, _<_, _≤_}
 use native.Mathlib.Omega.{arith}
-use lib.ListN.{length, getD, take, replicate}
+use lib.ListN.{length, getD, replicate}
 use lib.Seq.{take-append-le}
-use Rattle.std.proofs.shelf.Lists.{append-assoc, append-nil, take-all, length-replicate, length-take-le, getD-take}
+use Rattle.std.proofs.shelf.Lists.{take-all, length-replicate}
 use Rattle.std.proofs.shelf.Tests.{cases-lt}
 use Rattle.std.specs.declared.result.Result.{Result}
 use Rattle.std.specs.declared.result.Result.the-variants.{Ok, Err}
@@ -29,12 +29,12 @@ use Rattle.module.specs.WriteLaws.{Whole}
 use Rattle.module.proofs.WriteLawsOthers.{count-after}
 use Rattle.module.proofs.WriteLawsWhole.{stays-whole}
 use Rattle.runs.specs.History.{Event, read, write, round, eventState, after}
-use Rattle.runs.specs.Law.{noEvent, levelOf, voltageSet, IsWrite, Joined, FromHalves, limitOf, limitAfter, latestLimit, Leave, Kills, Restored, noReading, overAny, Gathered, stateAt, Safe}
+use Rattle.runs.specs.Law.{noEvent, levelOf, voltageSet, IsWrite, Joined, FromHalves, limitAfter, latestLimit, Kills, noReading, overAny, Gathered, stateAt}
 use Rattle.runs.proofs.Gathering.{new-gathered, wrote-gathered, round-gathered}
-use Rattle.runs.proofs.Histories.{EventTrue, Truthful, after-append, after-more, event-true, true-take}
-use Rattle.runs.proofs.Keeping.{more, more-length, more-old, more-new, limit-more, HeldFrom, held-more, held-new, halves-more, joined-new, Down, down, cleared, restored, stays-down, wrote-down}
+use Rattle.runs.proofs.Histories.{EventTrue}
+use Rattle.runs.proofs.Keeping.{more, more-length, more-old, more-new, limit-more, HeldFrom, held-more, held-new, halves-more, joined-new, Down, down, stays-down, wrote-down}
 use Rattle.runs.proofs.Wrote.{Wrote, wrote, wrote-held, level-falls}
-use Rattle.runs.proofs.Rounded.{round-refused, round-each, round-held, round-count, round-whole, round-limited, round-voltage, round-kill, round-off, round-down, round-kills, round-rises, round-absent}
+use Rattle.runs.proofs.Rounded.{round-refused, round-each, round-held, round-count, round-whole, round-limited, round-voltage, round-kill, round-off, round-down, round-kills}
 
 no-half : (x : Held) (a u : ℕ) → x ≡ Nothing → x ≡ Upper a u → ⊥
 no-half x a u p q = let z : _≡_ {A = ℕ} 0 1 = cc in omega arith

@@ -1,14 +1,12 @@
 -- What an accepted round does to channel k, to the held half and to the number of channels.
-use mathlib.Core.Path.{_≡_, refl, sym, ap, subst, _∙_}
+use mathlib.Core.Path.{_≡_, refl, ap, _∙_}
 use mathlib.Core.Bool.{Bool, true, false, not, cond, _&&_, _||_}
 use mathlib.Core.List.{List, [], _∷_}
 use mathlib.Core.Logic.{_⊎_, inl, inr}
 use Prim.Native.Nat.{ℕ, zero, suc, _+_, _<_, _≤_}
 use native.Mathlib.Omega.{arith}
-use lib.Dec.{eqb}
-use lib.Ieee.{Float}
 use lib.ListN.{length, getD, length-set}
-use Rattle.std.proofs.shelf.Tests.{eq-eqb, eqb-true, cond-true, cond-false, cases-bool, cases-lt, or-cases}
+use Rattle.std.proofs.shelf.Tests.{eq-eqb, eqb-true, cond-true, cond-false, cases-lt, or-cases}
 use Rattle.std.specs.declared.result.Result.{Result}
 use Rattle.std.specs.declared.result.Result.the-variants.{Ok, Err}
 use Rattle.values.specs.Ranges as Ranges
@@ -16,12 +14,11 @@ use Rattle.registers.specs.declared.fault.ModuleFault.{ModuleFault}
 use Rattle.registers.specs.Faults.{refusal-7}
 use Rattle.table.specs.declared.records.Channel.{Channel}
 use Rattle.table.specs.declared.records.Conditions.{Conditions}
-use Rattle.table.specs.declared.records.Held.{Held}
 use Rattle.table.specs.declared.round.Pass.{Pass}
 use Rattle.table.specs.declared.round.Reading.{Reading}
 use Rattle.table.specs.Changes.{withVoltage}
 use Rattle.table.specs.Reads.{channelOf}
-use Rattle.table.specs.Round.{excessOf, setpointAfter, shutOff, channelAfter}
+use Rattle.table.specs.Round.{excessOf, setpointAfter, shutOff}
 use Rattle.table.specs.RoundLaws.{ChannelLaws, OverSome, Killed}
 use Rattle.module.specs.State.{State, count}
 use Rattle.module.specs.Rounds.{stepped, steppedFrom, oneEach, begunState, roundPass, accepted, roundState, roundAnswer}

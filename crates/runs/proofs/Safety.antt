@@ -1,24 +1,18 @@
 -- The law, at each place of a truthful history.
 use mathlib.Core.Path.{_≡_, refl, sym, ap, subst, _∙_}
-use mathlib.Core.Bool.{Bool, true, false}
+use mathlib.Core.Bool.{Bool}
 use mathlib.Core.List.{List, [], _∷_, _++_}
 use mathlib.Core.Logic.{_⊎_, inl, inr}
-use Prim.Native.Nat.{ℕ, zero, suc, _+_, _<_, _≤_}
+use Prim.Native.Nat.{ℕ, _+_, _<_, _≤_}
 use native.Mathlib.Omega.{arith}
 use lib.ListN.{length, getD, take}
 use Rattle.std.proofs.shelf.Lists.{append-assoc, append-nil, length-take-le, getD-take, take-take}
 use Rattle.std.proofs.shelf.Tests.{cases-lt}
-use Rattle.std.specs.declared.result.Result.{Result}
 use Rattle.std.specs.declared.result.Result.the-variants.{Ok, Err}
 use Rattle.values.specs.declared.model.Model.{Model}
-use Rattle.registers.specs.declared.fault.ModuleFault.{ModuleFault}
 use Rattle.table.specs.declared.records.Channel.{Channel}
-use Rattle.table.specs.declared.records.Conditions.{Conditions}
-use Rattle.table.specs.declared.round.Reading.{Reading}
-use Rattle.table.specs.Reads.{channelOf}
 use Rattle.table.specs.Writes.{writtenAnswer}
-use Rattle.module.specs.State.{State, count, newState, writeState, writeAnswer}
-use Rattle.module.specs.Rounds.{roundState, roundAnswer}
+use Rattle.module.specs.State.{State, count, newState}
 use Rattle.module.specs.WriteLaws.{Whole}
 use Rattle.runs.specs.History.{Event, read, write, round, eventState, after}
 use Rattle.runs.specs.Law.{noEvent, levelOf, Leave, Clears, SwitchesOn, Kills, Restored, stateAt, Safe}

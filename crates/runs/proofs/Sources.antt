@@ -32,7 +32,6 @@ use Rattle.table.specs.declared.records.Held.the-variants.{Nothing, Upper}
 use Rattle.table.specs.declared.records.Table.{Table}
 use Rattle.table.specs.declared.order.Order.{Order}
 use Rattle.table.specs.declared.order.Order.the-variants as order
-use Rattle.table.specs.declared.writing.Request.{Request}
 use Rattle.table.specs.declared.writing.Request.the-variants as request
 use Rattle.table.specs.Orders.{wordOrder, valueOrder}
 use Rattle.table.specs.Writes.{carries, completes, requestAt, requestIn, requested}

@@ -1,15 +1,15 @@
 -- What an order that is obeyed does to the set voltage, the kill and the switch of channel k.
 use mathlib.Core.Path.{_≡_, refl, sym, ap, subst, _∙_}
-use mathlib.Core.Bool.{Bool, true, false, not, cond}
+use mathlib.Core.Bool.{Bool, true, false, cond}
 use mathlib.Core.List.{List, [], _∷_, _++_, map}
 use mathlib.Core.Logic.{_⊎_, inl, inr}
 use Prim.Native.Nat.{ℕ, zero, suc, _<_, _≤_, min}
 use native.Mathlib.Omega.{arith}
 use lib.Dec.{eqb}
 use lib.Ieee.{Float}
-use lib.ListN.{length, getD, take, drop, set}
+use lib.ListN.{length, getD, take, drop}
 use lib.Seq.{getD-set-same, getD-set-other}
-use Rattle.std.proofs.shelf.Tests.{cases-eq, cases-bool}
+use Rattle.std.proofs.shelf.Tests.{cases-eq}
 use Rattle.table.specs.declared.records.Channel.{Channel}
 use Rattle.table.specs.declared.records.Table.{Table}
 use Rattle.table.specs.declared.change.Change.{Change}

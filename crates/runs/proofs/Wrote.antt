@@ -3,7 +3,7 @@ use mathlib.Core.Path.{_≡_, refl, sym, ap, subst, _∙_}
 use mathlib.Core.Bool.{Bool, true, false, not, cond, _&&_, _||_}
 use mathlib.Core.List.{List, [], _∷_}
 use mathlib.Core.Logic.{_⊎_, inl, inr}
-use Prim.Native.Nat.{ℕ, zero, suc, _+_, _*_, _<_, _≤_, min}
+use Prim.Native.Nat.{ℕ, zero, suc, _+_, _<_, _≤_, min}
 use native.Mathlib.Omega.{arith}
 use lib.Dec.{eqb}
 use lib.Ieee.{Float}
@@ -34,9 +34,9 @@ use Rattle.table.specs.Writes.{requested, released, served, servedAnswer}
 use Rattle.module.specs.State.{State, count, done, drivenBy, writeLevels, writeState, writeAnswer}
 use Rattle.module.specs.WriteLaws.{Whole}
 use Rattle.module.proofs.WriteLawsOrders.{carried-within}
-use Rattle.runs.specs.History.{Event, write}
+use Rattle.runs.specs.History.{write}
 use Rattle.runs.specs.Law.{SwitchesOne, SwitchesOn}
-use Rattle.runs.proofs.Sources.{Source, one-word, two-halves, source, orderOffset, MadeOfWord, MadeOfHalves}
+use Rattle.runs.proofs.Sources.{Source, one-word, two-halves, source}
 use Rattle.runs.proofs.Touching.{Touched, SetsVoltage, TurnsOn, DoesClear, touched, noted}
 
 -- ---- levels

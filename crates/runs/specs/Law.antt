@@ -4,15 +4,13 @@ use mathlib.Core.List.{List, [], _∷_}
 use mathlib.Core.Logic.{_⊎_}
 use mathlib.Core.Path.{_≡_}
 use Prim.Native.Nat.{ℕ, _+_, _<_, _≤_}
-use lib.Ieee.{Float, binary32, nan, toBits}
+use lib.Ieee.{Float, nan}
 use lib.ListN.{length, getD, take}
-use Rattle.std.specs.declared.result.Result.{Result}
 use Rattle.std.specs.declared.result.Result.the-variants.{Ok, Err}
 use Rattle.values.specs.declared.model.Model.{Model}
 use Rattle.values.specs.Ranges.{zero, storedMaximum}
 use Rattle.values.specs.Steps.{limitSteps, rampStep}
 use Rattle.values.specs.Words.{valueOf, upperWord, lowerWord}
-use Rattle.registers.specs.declared.fault.ModuleFault.{ModuleFault}
 use Rattle.registers.specs.Map.{channelBegins}
 use Rattle.table.specs.declared.records.Conditions.{Conditions}
 use Rattle.table.specs.declared.round.Excess.{Excess}

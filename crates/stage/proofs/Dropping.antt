@@ -1,13 +1,13 @@
 -- Lemmas on the definitions of specs/Drops.
 use mathlib.Core.Path.{_≡_, refl, sym, ap, _∙_}
 use mathlib.Core.Bool.{true}
-use mathlib.Core.List.{List, [], _∷_, map}
+use mathlib.Core.List.{List, [], _∷_}
 use Prim.Native.Nat.{ℕ, zero, suc, _≤_, _-_, zero-le}
 use native.Mathlib.Omega.{arith}
 use Rattle.std.proofs.shelf.Lists.{length-map, length-take-le, length-set}
 use lib.ListN.{length, getD, take, set}
 use Rattle.stage.specs.declared.distributor.DistributorStage.{DistributorStage}
-use Rattle.stage.specs.Levels.{highestLevel, mostChannels, AtMost, drivable, driven}
+use Rattle.stage.specs.Levels.{highestLevel, mostChannels, AtMost, drivable}
 use Rattle.stage.specs.Drops.{highest, minusEach, levelsOf}
 use Rattle.stage.proofs.Driving.{DrivenTo, at-most-take, at-most-set, level-at-most, first-driven}
 

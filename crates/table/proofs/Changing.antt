@@ -1,8 +1,7 @@
 -- A loop that changes the first channels of a table.
-use mathlib.Core.Path.{_≡_, refl, sym, ap, _∙_}
+use mathlib.Core.Path.{_≡_, refl, ap, _∙_}
 use mathlib.Core.List.{List, [], _∷_, _++_, map}
-use Prim.Native.Nat.{ℕ, _+_, _<_, _≤_, min}
-use native.Mathlib.Omega.{arith}
+use Prim.Native.Nat.{ℕ, _+_, _<_}
 use lib.ListN.{length, take, drop, getD, set}
 use Rattle.std.proofs.shelf.Edits.{map-over-more}
 use Rattle.table.specs.declared.records.Channel.{Channel}
@@ -11,7 +10,6 @@ use Rattle.table.specs.declared.change.Change.{Change}
 use Rattle.table.specs.Changes.{changed}
 use Rattle.table.specs.Parts.{withChannels}
 use Rattle.table.specs.Reads.{noChannel}
-use Rattle.table.specs.Carrying.{changedAll}
 
 abbrev changedChannels : ℕ → List Channel → Change → List Channel
 changedChannels i cs x = map (λ (c : Channel). changed c x) (take i cs) ++ drop i cs

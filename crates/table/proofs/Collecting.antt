@@ -1,13 +1,13 @@
 -- Lemmas on `passing`, for a loop from the last channel down to place k.
-use mathlib.Core.Path.{_≡_, refl, sym, ap, _∙_}
-use mathlib.Core.Bool.{Bool, true, false, cond}
+use mathlib.Core.Path.{_≡_, sym, ap, _∙_}
+use mathlib.Core.Bool.{Bool, true, false}
 use mathlib.Core.List.{List, [], _∷_}
-use Prim.Native.Nat.{ℕ, suc, _+_, _-_, _*_, _^_, _<_, _≤_}
+use Prim.Native.Nat.{ℕ, _+_, _-_, _*_, _^_, _<_, _≤_}
 use native.Mathlib.Nat.{pow-succ'}
 use native.Mathlib.Omega.{arith}
 use lib.ListN.{length, drop, getD}
 use lib.Pow.{pow-mono}
-use Rattle.std.proofs.shelf.Lists.{at-drop-more, at-drop-all, length-drop}
+use Rattle.std.proofs.shelf.Lists.{at-drop-more, length-drop}
 use Rattle.table.specs.declared.records.Channel.{Channel}
 use Rattle.table.specs.Changes.{eventPasses}
 use Rattle.table.specs.Reads.{noChannel}

@@ -1,15 +1,14 @@
 -- Where a round can move a level.
-use mathlib.Core.Path.{_≡_, refl}
-use mathlib.Core.Bool.{Bool, true, false, cond}
-use Prim.Native.Nat.{ℕ, _+_, _-_, _<_, _≤_, min}
+use mathlib.Core.Bool.{Bool, cond}
+use Prim.Native.Nat.{ℕ, _+_, _-_, _≤_, min}
 use native.Mathlib.Omega.{arith}
 use lib.Dec.{ltb}
-use Rattle.std.proofs.shelf.Tests.{ltb-true, ltb-false, cond-both}
+use Rattle.std.proofs.shelf.Tests.{ltb-false, cond-both}
 use Rattle.values.specs.Steps.{setSteps}
 use Rattle.table.specs.declared.records.Channel.{Channel}
 use Rattle.table.specs.declared.round.Pass.{Pass}
 use Rattle.table.specs.declared.round.Reading.{Reading}
-use Rattle.table.specs.Round.{goalOf, movedLevel, rampLevel, levelAfter, judged, startLevel}
+use Rattle.table.specs.Round.{goalOf, movedLevel, levelAfter, judged, startLevel}
 
 -- what is at most b, and moves to a goal that is, stays at most b
 pub moved-at-most : (b level goal step : ℕ) (held : Bool) → level ≤ b → goal ≤ b → movedLevel level goal step held ≤ b

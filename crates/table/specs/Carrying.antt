@@ -1,20 +1,17 @@
 -- What carrying out an order does, and when it is refused.
-use mathlib.Core.Bool.{Bool, true, false, not, cond, _&&_, _||_}
-use mathlib.Core.List.{List, [], _∷_, _++_, map}
+use mathlib.Core.Bool.{Bool, true, false, not, cond}
+use mathlib.Core.List.{_++_, map}
 use Prim.Native.Nat.{ℕ, _-_, min, _<_}
 use lib.Bits.{bitAnd, bitOr}
 use lib.Dec.{eqb, ltb}
 use lib.Ieee.{Float}
-use lib.ListN.{take, drop}
-use Rattle.std.specs.declared.option.Option.{Option}
-use Rattle.std.specs.declared.option.Option.the-variants.{Some, None}
+use lib.ListN.{drop}
 use Rattle.std.specs.declared.result.Result.{Result}
 use Rattle.std.specs.declared.result.Result.the-variants.{Ok, Err}
 use Rattle.values.specs.declared.model.Model.{Model}
 use Rattle.values.specs.Ranges.{voltageAdmitted, currentAdmitted, speedAdmitted}
 use Rattle.registers.specs.declared.fault.ModuleFault.{ModuleFault}
 use Rattle.registers.specs.Faults.{refusal-5, refusal-6}
-use Rattle.table.specs.declared.records.Channel.{Channel}
 use Rattle.table.specs.declared.records.Groups.{Groups}
 use Rattle.table.specs.declared.records.Table.{Table}
 use Rattle.table.specs.declared.change.Change.{Change}

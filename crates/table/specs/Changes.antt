@@ -1,5 +1,5 @@
 -- What an order does to one channel.
-use mathlib.Core.Bool.{Bool, true, false, not, cond, _&&_, _||_}
+use mathlib.Core.Bool.{Bool, true, false, not, _&&_, _||_}
 use Prim.Native.Nat.{ℕ, _-_}
 use lib.Bits.{bitAnd, bitOr}
 use lib.Ieee.{Float}
@@ -10,7 +10,7 @@ use Rattle.table.specs.declared.change.Change.the-variants as change
 use Rattle.table.specs.Words.{bit}
 use Rattle.table.specs.Reads.{passes}
 
--- one field of a channel is another
+-- a channel in which some fields are others
 
 abbrev pub withSwitching : Channel → Bool → Bool → Bool → ℕ → Channel
 withSwitching c emergency ramping on events = record {
@@ -68,7 +68,7 @@ withCurrent a v = record { voltage = a .voltage; current = v }
 abbrev pub falling : Channel → Bool → ℕ
 falling c on = bit 0x0008 (c .on && not on)
 
--- the level is driven to 0 elsewhere; isEMCY and EEMCY are set, isON and isRAMP reset
+-- isEMCY and EEMCY are set, isON and isRAMP reset, EOn2Off set if isON falls; the level is driven to 0 too
 abbrev pub emergencyOff : Channel → Channel
 emergencyOff c = withSwitching c true false false (bitOr (bitOr (c .events) 0x0020) (bit 0x0008 (c .on)))
 

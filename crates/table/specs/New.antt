@@ -1,6 +1,5 @@
 -- The records of a new module.
 use mathlib.Core.Bool.{true, false}
-use mathlib.Core.List.{List}
 use lib.ListN.{replicate}
 use lib.Ieee.{Float, binary32, ofBits}
 use Rattle.values.specs.declared.model.Model.{Model}

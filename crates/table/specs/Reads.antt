@@ -1,12 +1,11 @@
 -- What the registers of a module of n channels read.
-use mathlib.Core.Bool.{Bool, true, false, not, _&&_, _||_}
+use mathlib.Core.Bool.{Bool, false, not, _&&_, _||_}
 use mathlib.Core.List.{List, [], _∷_}
 use Prim.Native.Nat.{ℕ, _+_, _-_, _/_, _%_, _^_, min}
 use lib.Bits.{bitAnd}
 use lib.Dec.{eqb}
 use lib.Ieee.{Float, binary32, nan, ofBits, toBits}
 use lib.ListN.{getD, take}
-use Rattle.std.specs.Results.{mapped}
 use Rattle.std.specs.declared.result.Result.{Result}
 use Rattle.std.specs.declared.result.Result.the-variants.{Ok, Err}
 use Rattle.values.specs.Ranges.{atMost}

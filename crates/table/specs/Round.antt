@@ -1,5 +1,5 @@
 -- One channel's part of a round: c is its record, r its reading, p what the round fixes for every channel.
-use mathlib.Core.Bool.{Bool, true, false, not, cond, _&&_, _||_}
+use mathlib.Core.Bool.{Bool, not, cond, _&&_, _||_}
 use Prim.Native.Nat.{ℕ, _+_, _-_, min}
 use lib.Bits.{bitOr}
 use lib.Dec.{eqb, ltb}

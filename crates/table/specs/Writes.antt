@@ -1,5 +1,5 @@
 -- What a write of the word w at the offset o does to the table of a module of n channels, and what it answers.
-use mathlib.Core.Bool.{Bool, cond}
+use mathlib.Core.Bool.{cond}
 use mathlib.Core.List.{List, [], _∷_}
 use Prim.Native.Nat.{ℕ, _+_, _*_}
 use lib.Bits.{bitOr}

@@ -2,7 +2,6 @@
 ghost use mathlib.Core.Path.{_≡_};
 ghost use Rattle.table.specs.Changes.{changed, emergencyOff, switched, eventPasses, blocked, switchRefused};
 use crate::channel::bit;
-use crate::records::Amounts;
 use crate::records::Channel;
 
 #[derive(Clone, Copy)]

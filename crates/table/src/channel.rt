@@ -2,7 +2,7 @@
 ghost use mathlib.Core.Path.{_≡_};
 ghost use mathlib.Core.Bool.{cond};
 ghost use Prim.Native.Nat.{_≤_};
-ghost use Rattle.table.specs.Words.{channelStatus, channelControl, channelWord, channelBits, alarmed};
+ghost use Rattle.table.specs.Words.{channelStatus, channelWord, channelBits, alarmed};
 use crate::records::Channel;
 use registers::ChannelValue;
 use registers::ChannelWord;

@@ -1,6 +1,5 @@
 // One channel's part of a round.
 ghost use mathlib.Core.Path.{_≡_};
-ghost use Prim.Native.Nat.{_≤_};
 ghost use Rattle.table.specs.Round as Round;
 ghost use Rattle.table.specs.Round.{over, excessOf, kills, trips, shutOff, findingsOf, foundEvents, judged, goalOf, movedLevel, ramped, levelAfter, channelAfter};
 use crate::channel::bit;

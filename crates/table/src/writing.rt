@@ -6,7 +6,7 @@ ghost use Rattle.std.specs.Vec.{made};
 ghost use Rattle.registers.specs.Map.{Placed};
 ghost use Rattle.table.specs.Orders.{SomeOrderPlaced};
 ghost use Rattle.table.specs.Carrying.{DrivePlaced};
-ghost use Rattle.table.specs.Writes.{passing, collected, carries, requestAt, requested, released, served, servedAnswer, writtenTable, writtenAnswer, RequestPlaced};
+ghost use Rattle.table.specs.Writes.{passing, collected, carries, requestAt, requested, served, servedAnswer, writtenTable, writtenAnswer, RequestPlaced};
 use crate::carrying::Drive;
 use crate::channel::bit;
 use crate::order::Order;

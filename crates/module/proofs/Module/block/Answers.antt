@@ -3,9 +3,7 @@ use native.Mathlib.Omega.{arith}
 use Prim.Native.Nat.{ℕ}
 use Rattle.std.proofs.shelf.Results.{err-from-errBy}
 use Rattle.registers.specs.declared.fault.ModuleFault.{ModuleFault}
-use Rattle.std.specs.declared.result.Result.{Result}
-use Rattle.std.specs.declared.result.Result.the-variants.{Ok, Err}
-use Rattle.module.specs.declared.block.BlockFault.{BlockFault}
+use Rattle.std.specs.declared.result.Result.the-variants.{Err}
 use Rattle.module.specs.State.{stateOf}
 use Rattle.module.specs.Blocks.{endOf, blockFault}
 use Rattle.module.proofs.BlockLaws.{block-lawful}

@@ -1,9 +1,8 @@
-use mathlib.Core.Path.{_≡_, refl, ap, _∙_}
+use mathlib.Core.Path.{refl, ap, _∙_}
 use native.Mathlib.Omega.{arith}
 use Rattle.std.specs.declared.result.Result.{Result}
 use Rattle.std.specs.Results.{valueOr}
 use Rattle.stage.specs.declared.fault.StageFault.{StageFault}
-use Rattle.module.specs.declared.levels.Levels.{Levels}
 use Prim.Native.Nat.{ℕ}
 use Rattle.module.proofs.Listing.{listed-more, listed-all}
 use Rattle.module.proofs.Module.levels.Needs as need

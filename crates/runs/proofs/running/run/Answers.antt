@@ -1,12 +1,12 @@
 use mathlib.Core.Path.{_≡_, sym, ap, _∙_}
-use mathlib.Core.List.{List, map, _∷_, [], _++_}
+use mathlib.Core.List.{map, _∷_, []}
 use native.Mathlib.Omega.{arith}
 use lib.ListN.{length}
 use Rattle.std.specs.Of.Vec.{vec-items}
 use Rattle.std.specs.Of.IntoIter.{into-iter-items}
 use Rattle.std.proofs.shelf.Lists.{map-push, append-nil, nil-from-length}
 use Rattle.module.specs.State.{State, stateOf, newState}
-use Rattle.runs.specs.Calls.{Asked, asked, told, runState, runTold}
+use Rattle.runs.specs.Calls.{asked, told, runState, runTold}
 use Rattle.runs.specs.History.{history}
 use Rattle.runs.proofs.Histories.{run-true}
 use Rattle.runs.proofs.Safety.{safe}
