@@ -4,11 +4,13 @@ use mathlib.Core.Bool.{true}
 use mathlib.Core.List.{List}
 use Prim.Native.Nat.{ℕ, _+_, _-_, _/_, _%_, _^_, _<_}
 use native.Mathlib.Omega.{arith}
+use lib.Dec.{ltb}
 use lib.ListN.{length, take, drop}
 use Rattle.std.proofs.shelf.Ways.{tells}
 use Rattle.std.specs.declared.result.Result.{Result}
 use Rattle.std.specs.declared.result.Result.the-variants.{Ok}
 use Rattle.registers.specs.declared.fault.ModuleFault.{ModuleFault}
+use Rattle.std.proofs.shelf.Tests.{lt-ltb}
 use Rattle.registers.specs.Map.{channelBegins}
 use Rattle.register_image.specs.Image.{Block, readerWord, wordIn, placedIn, blockAnswer}
 use Rattle.register_image.proofs.Bytes.{sized-ok}
@@ -30,4 +32,5 @@ module _ (bs : List ℕ) (k w : ℕ) (read : Ok w ≡ readerWord bs 0x3C) (few :
   placed-block =
       let n : length bs ≡ 1024 = sized-ok (length bs) w _ read in
       let e : channelBegins k + 0x30 - channelBegins k ≡ 0x30 = omega arith in
-      ap (part bs k) e ∙ simp (n, placed)
+      let low : ltb k 12 ≡ true = lt-ltb k 12 few in
+      ap (part bs k) e ∙ simp (low, n, placed)

@@ -5,9 +5,11 @@ use mathlib.Core.List.{List}
 use Prim.Native.Nat.{ℕ, _+_, _-_, _*_, _/_, _%_, _^_, _<_, _≤_, min}
 use native.Mathlib.Nat.{div-eq-of-lt}
 use native.Mathlib.Omega.{arith}
+use lib.Dec.{ltb}
 use lib.ListN.{length}
 use lib.Pow.{pow-pos, pow-mono, pow-add, ones-lt, ones-split}
 use Rattle.std.proofs.shelf.Bits.{shr-high}
+use Rattle.std.proofs.shelf.Tests.{lt-ltb, cond-both}
 use Rattle.std.proofs.shelf.Ways.{tells}
 use Rattle.std.specs.Results.{valueOr}
 use Rattle.std.specs.declared.result.Result.{Result}
@@ -19,7 +21,7 @@ use Rattle.registers.specs.Map.{outside}
 use Rattle.table.specs.declared.records.Table.{Table}
 use Rattle.table.specs.Reads.{readAt, placedChannels}
 use Rattle.module.specs.State.{State, count}
-use Rattle.register_image.specs.Image.{imageWord, imageOf, written, wordIn, placedIn, blockIn, blockAnswer}
+use Rattle.register_image.specs.Image.{imageWord, imageOf, written, sized, wordIn, placedIn, Block, blockIn, blockAnswer}
 use Rattle.register_image.specs.Laws.{Tells}
 use Rattle.register_image.proofs.Bytes.{Filled, filled-all, long, word-in, word-back}
 
@@ -63,13 +65,15 @@ module _ (s : State) where
       let few : k < 12 = omega arith in
       let bit = placed-bit k 1 (low-bit (min (count s) 12) k h) in
       let p : placedIn (imageOf s) k ≡ true = grind (arith, tells) in
-      simp (long (imageWord s), p)
+      let low : ltb k 12 ≡ true = lt-ltb k 12 few in
+      simp (low, long (imageWord s), p)
 
   absent-back : (k : ℕ) → min (count s) 12 ≤ k → blockAnswer (imageOf s) k ≡ Err (refusal-2-channel k)
   absent-back k h =
       let bit = placed-bit k 0 (high-bit (min (count s) 12) k h) in
       let p : placedIn (imageOf s) k ≡ false = grind (arith, tells) in
-      simp (long (imageWord s), p)
+      let inner : sized (length (imageOf s)) (cond (placedIn (imageOf s) k) (Ok (blockIn (imageOf s) k)) (Err (refusal-2-channel k))) ≡ Err (refusal-2-channel k) = simp (long (imageWord s), p) in
+      cond-both (ltb k 12) _ (Err (refusal-2-channel k)) (λ (r : Result Block ModuleFault). r ≡ Err (refusal-2-channel k)) (λ t. inner) (λ t. refl)
 
   pub tells-image : Tells s (imageOf s)
   tells-image = record {

@@ -48,11 +48,11 @@ wordIn bs o = getD bs o 0 * 256 + getD bs (o + 1) 0
 
 -- the answer where the word at the offset o is asked of the bytes
 abbrev pub readerWord : List ℕ → ℕ → Result ℕ ModuleFault
-readerWord bs o = sized (length bs) (cond (outside o) (Err (refusal-1 o)) (Ok (wordIn bs o)))
+readerWord bs o = cond (outside o) (Err (refusal-1 o)) (sized (length bs) (Ok (wordIn bs o)))
 
 -- bit k of PlacedChannels belongs to channel k
 abbrev pub placedIn : List ℕ → ℕ → Bool
-placedIn bs k = ltb k 12 && eqb (wordIn bs 0x3C / 2 ^ k % 2) 1
+placedIn bs k = eqb (wordIn bs 0x3C / 2 ^ k % 2) 1
 
 -- the bytes that a reader holds
 abbrev pub readerBytes : Result ImageReader ModuleFault → Result (List ℕ) ModuleFault
@@ -75,6 +75,7 @@ blockTold (Err f) = Err f
 abbrev pub blockIn : List ℕ → ℕ → Block
 blockIn bs k = record { begins = channelBegins k; held = take 0x30 (drop (channelBegins k) bs) }
 
--- the answer where the block of channel k is asked of the bytes
+-- the answer where the block of channel k is asked of the bytes: a channel from 12 up is refused without a look at them
 abbrev pub blockAnswer : List ℕ → ℕ → Result Block ModuleFault
-blockAnswer bs k = sized (length bs) (cond (placedIn bs k) (Ok (blockIn bs k)) (Err (refusal-2-channel k)))
+blockAnswer bs k =
+    cond (ltb k 12) (sized (length bs) (cond (placedIn bs k) (Ok (blockIn bs k)) (Err (refusal-2-channel k)))) (Err (refusal-2-channel k))

@@ -14,7 +14,7 @@ pub use writer::write_image;
 
 pub const IMAGE_BYTES: usize = 1024;
 
-// The length comes before every other check, whatever its number: in bytes that are no image there is no word to look at.
+// Refused with 8, after what the offset or the channel alone refuses: in bytes that are no image there is no word to look at.
 fn check_length(bytes: usize) -> Result<(), ModuleFault>
     ensures { λ r. ⌜ r ≡ sized bytes (Ok tt) ⌝ }
 {

@@ -36,10 +36,10 @@ impl<'a> ImageReader<'a> {
     pub fn word(&self, offset: u16) -> Result<u16, ModuleFault>
         ensures { λ r. ⌜ r ≡ readerWord (now (now (self .entry) .bytes)) offset ⌝ }
     {
-        check_length(self.bytes.len())?;
         if offset % 2 == 1 || offset > 0x3FE {
             return Err(ModuleFault::Outside { offset });
         }
+        check_length(self.bytes.len())?;
         let at = offset as usize;
         Ok(self.bytes[at] as u16 * 256 + self.bytes[at + 1] as u16)
     }
@@ -48,8 +48,11 @@ impl<'a> ImageReader<'a> {
     pub fn channel_block(&self, channel: usize) -> Result<ChannelBlock<'a>, ModuleFault>
         ensures { λ r. ⌜ blockTold r ≡ blockAnswer (now (now (self .entry) .bytes)) channel ⌝ }
     {
+        if channel >= MOST_CHANNELS {
+            return Err(ModuleFault::NoChannel { channel });
+        }
         let placed = self.word(PLACED_CHANNELS)?;
-        if channel >= MOST_CHANNELS || (placed >> channel) % 2 == 0 {
+        if (placed >> channel) % 2 == 0 {
             return Err(ModuleFault::NoChannel { channel });
         }
         let begins = FIRST_CHANNEL + channel * CHANNEL_BYTES;
