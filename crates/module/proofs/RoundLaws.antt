@@ -20,9 +20,9 @@ use Rattle.table.specs.Writes.{passing}
 use Rattle.table.proofs.Ramping.{level-within}
 use Rattle.table.proofs.RoundLawsBits.{kept-self, kept-or}
 use Rattle.table.proofs.RoundLawsChannel.{channel-laws}
-use Rattle.module.specs.State.{State, count}
-use Rattle.module.specs.Rounds.{steppedFrom, oneEach, begunState, roundPass, accepted, roundState}
-use Rattle.module.specs.RoundLaws.{Placed, levelOf, readingOf, RoundLaws, EventsStay}
+use Rattle.module.specs.State.{State, count, levelOf}
+use Rattle.module.specs.Rounds.{readingOf, steppedFrom, oneEach, begunState, roundPass, accepted, roundState}
+use Rattle.module.specs.RoundLaws.{Placed, RoundLaws, EventsStay}
 use Rattle.module.proofs.RoundLawsSteps.{Turn, turn-of, level-at, record-at, placed-at, module-events-at, collected-events-at}
 
 module _ (regulates : Bool) (s : State) (x : Conditions) (rs : List Reading) where

@@ -10,9 +10,9 @@ use Rattle.table.specs.declared.round.Pass.{Pass}
 use Rattle.table.specs.declared.round.Reading.{Reading}
 use Rattle.table.specs.Reads.{channelOf, noChannel}
 use Rattle.table.specs.Round.{channelAfter, levelAfter}
-use Rattle.module.specs.State.{State, count}
-use Rattle.module.specs.Rounds.{stepped, steppedFrom}
-use Rattle.module.specs.RoundLaws.{Placed, levelOf, readingOf}
+use Rattle.module.specs.State.{State, count, levelOf}
+use Rattle.module.specs.Rounds.{readingOf, stepped, steppedFrom}
+use Rattle.module.specs.RoundLaws.{Placed}
 
 -- channel k has the same record and the same level in two states of the same size
 pub record Alike (k : ℕ) (s u : State) : Type 0 where

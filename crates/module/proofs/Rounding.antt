@@ -1,9 +1,8 @@
 -- Lemmas on the loop of a round over the readings.
 use mathlib.Core.Path.{_≡_, sym, ap, subst, _∙_}
-use mathlib.Core.Bool.{Bool, false}
+use mathlib.Core.Bool.{Bool}
 use mathlib.Core.List.{List}
 use Prim.Native.Nat.{ℕ, _+_, _<_, _≤_}
-use lib.Ieee.{nan}
 use lib.ListN.{length, drop, getD, length-set}
 use Rattle.std.proofs.shelf.Lists.{at-drop-more, at-drop-all}
 use Rattle.std.proofs.shelf.Tests.{eq-eqb, cond-true}
@@ -15,11 +14,8 @@ use Rattle.table.specs.declared.round.Pass.{Pass}
 use Rattle.table.specs.declared.round.Reading.{Reading}
 use Rattle.table.specs.Round.{begun, passOf}
 use Rattle.table.specs.Writes.{collected}
-use Rattle.module.specs.State.{State, count}
-use Rattle.module.specs.Rounds.{stepped, steppedFrom, oneEach, begunState, collectedState, roundPass, accepted, roundState, roundAnswer}
-
-abbrev pub noReading : Reading
-noReading = record { voltage = nan; current = nan; «inhibit_low» = false }
+use Rattle.module.specs.State.{State, count, collectedState}
+use Rattle.module.specs.Rounds.{noReading, stepped, steppedFrom, oneEach, begunState, roundPass, accepted, roundState, roundAnswer}
 
 -- the limit steps of a round are at most 100,000
 pub limit-low : (regulates : Bool) (t u : Table) (x : Conditions) (p : Pass) → p ≡ passOf regulates u → u ≡ begun t x → p .«limit_steps» ≤ 100000

@@ -1,30 +1,21 @@
 -- What holds of every round: s is the state before it and u the state after it, x its conditions, rs its readings.
-use mathlib.Core.Bool.{Bool, true, false}
+use mathlib.Core.Bool.{Bool, true}
 use mathlib.Core.List.{List}
 use mathlib.Core.Path.{_≡_}
 use Prim.Native.Nat.{ℕ, _<_, _≤_}
-use lib.Ieee.{nan}
-use lib.ListN.{length, getD}
+use lib.ListN.{length}
 use Rattle.values.specs.Ranges.{storedMaximum}
 use Rattle.values.specs.Steps.{limitSteps}
 use Rattle.table.specs.declared.records.Conditions.{Conditions}
 use Rattle.table.specs.declared.round.Reading.{Reading}
 use Rattle.table.specs.Reads.{channelOf}
 use Rattle.table.specs.RoundLaws.{Kept, ChannelLaws}
-use Rattle.module.specs.Rounds.{roundPass}
-use Rattle.module.specs.State.{State, count}
+use Rattle.module.specs.Rounds.{readingOf, roundPass}
+use Rattle.module.specs.State.{State, count, levelOf}
 
 -- channel k is one of the module's, and the table has its record
 abbrev pub Placed : State → ℕ → Type 0
 Placed s k = (k < count s) × (k < length (s .table .channels))
-
--- the level of channel k
-abbrev pub levelOf : State → ℕ → ℕ
-levelOf s k = getD (s .levels) k 0
-
--- the reading of channel k
-abbrev pub readingOf : List Reading → ℕ → Reading
-readingOf rs k = getD rs k (record { voltage = nan; current = nan; «inhibit_low» = false })
 
 -- what an accepted round does to the levels, and to each channel
 pub record RoundLaws (regulates : Bool) (s : State) (x : Conditions) (rs : List Reading) (u : State) : Type 0 where

@@ -1,8 +1,9 @@
 -- What a round does to the state of a module, and what it answers.
-use mathlib.Core.Bool.{Bool, cond}
+use mathlib.Core.Bool.{Bool, false, cond}
 use mathlib.Core.List.{List, [], _∷_}
 use Prim.Native.Nat.{ℕ, _+_}
 use lib.Dec.{eqb}
+use lib.Ieee.{nan}
 use lib.ListN.{length, getD, set}
 use Rattle.std.specs.declared.result.Result.{Result}
 use Rattle.std.specs.declared.result.Result.the-variants.{Ok, Err}
@@ -14,8 +15,14 @@ use Rattle.table.specs.declared.round.Reading.{Reading}
 use Rattle.table.specs.Parts.{withChannel}
 use Rattle.table.specs.Reads.{channelOf}
 use Rattle.table.specs.Round.{begun, passOf, channelAfter, levelAfter}
-use Rattle.table.specs.Writes.{collected}
-use Rattle.module.specs.State.{State, count}
+use Rattle.module.specs.State.{State, count, collectedState}
+
+abbrev pub noReading : Reading
+noReading = record { voltage = nan; current = nan; «inhibit_low» = false }
+
+-- the reading of channel k
+abbrev pub readingOf : List Reading → ℕ → Reading
+readingOf rs k = getD rs k noReading
 
 -- channel k and its level take their part of the round
 abbrev pub stepped : Pass → State → ℕ → Reading → State
@@ -35,9 +42,6 @@ oneEach s rs = eqb (length rs) (count s)
 
 abbrev pub begunState : State → Conditions → State
 begunState s x = record { table = begun (s .table) x; levels = s .levels }
-
-abbrev pub collectedState : State → State
-collectedState s = record { table = collected (count s) (s .table); levels = s .levels }
 
 -- what the round fixes, over a stage that regulates current or does not
 abbrev pub roundPass : Bool → State → Conditions → Pass

@@ -1,7 +1,7 @@
 -- The state of a module: its table, and the levels that its stage answers.
 use mathlib.Core.List.{List}
 use Prim.Native.Nat.{ℕ}
-use lib.ListN.{length, replicate, set}
+use lib.ListN.{length, getD, replicate, set}
 use Rattle.std.specs.declared.result.Result.{Result}
 use Rattle.std.specs.declared.result.Result.the-variants.{Ok, Err}
 use Rattle.values.specs.declared.model.Model.{Model}
@@ -11,7 +11,7 @@ use Rattle.table.specs.New.{newTable}
 use Rattle.table.specs.declared.carrying.Drive.{Drive}
 use Rattle.table.specs.declared.carrying.Drive.the-variants as drive
 use Rattle.table.specs.Reads.{readAnswer}
-use Rattle.table.specs.Writes.{writtenTable, writtenAnswer}
+use Rattle.table.specs.Writes.{collected, writtenTable, writtenAnswer}
 use Rattle.module.specs.declared.Module.{Module}
 
 pub record State : Type 0 where
@@ -25,6 +25,14 @@ stateOf levels m = record { table = m .table; levels = levels (m .stage) }
 -- the channels of a module are those of its stage
 abbrev pub count : State → ℕ
 count s = length (s .levels)
+
+-- the level of channel k
+abbrev pub levelOf : State → ℕ → ℕ
+levelOf s k = getD (s .levels) k 0
+
+-- the channel events are collected
+abbrev pub collectedState : State → State
+collectedState s = record { table = collected (count s) (s .table); levels = s .levels }
 
 -- the answer to a read of the word at the offset o
 abbrev pub wordAnswer : State → ℕ → Result ℕ ModuleFault

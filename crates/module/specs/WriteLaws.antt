@@ -25,7 +25,7 @@ use Rattle.table.specs.Changes.{blocked}
 use Rattle.table.specs.Orders.{Subject, ofModule, ofChannel, ofAll, setsEmergency, setsOn}
 use Rattle.table.specs.Reads.{channelOf}
 use Rattle.table.specs.Writes.{collected, released}
-use Rattle.module.specs.State.{State, count, newState, wordAnswer, writeState, writeAnswer}
+use Rattle.module.specs.State.{State, count, collectedState, newState, wordAnswer, writeState, writeAnswer}
 
 -- what a register is for: the module, one channel, or all channels
 
@@ -63,10 +63,6 @@ pub record Whole (s : State) : Type 0 where
 pub record StaysWhole : Type 0 where
   pub new : (m : Model) (n : ℕ) → n ≤ 12 → Whole (newState m n)
   pub written : (s : State) (o w : ℕ) → Whole s → Whole (writeState s o w)
-
--- what an access does at least: it collects the channels that have an event that passes its mask
-abbrev pub collectedState : State → State
-collectedState s = record { table = collected (count s) (s .table); levels = s .levels }
 
 -- the write of w at o was accepted; every word reads as after any access, and every level is as it was
 pub record OnlyHeld (s : State) (o w : ℕ) : Type 0 where

@@ -23,13 +23,13 @@ use Rattle.table.specs.New.{newChannel}
 use Rattle.table.specs.Reads.{channelOf, noChannel}
 use Rattle.table.specs.Round.{excessOf}
 use Rattle.table.specs.Writes.{writtenAnswer}
-use Rattle.module.specs.State.{State, count, newState, writeState, writeAnswer}
-use Rattle.module.specs.Rounds.{roundPass, roundState, roundAnswer}
+use Rattle.module.specs.State.{State, count, levelOf, newState, writeState, writeAnswer}
+use Rattle.module.specs.Rounds.{readingOf, roundPass, roundState, roundAnswer}
 use Rattle.module.specs.WriteLaws.{Whole}
 use Rattle.module.proofs.WriteLawsOthers.{count-after}
 use Rattle.module.proofs.WriteLawsWhole.{stays-whole}
 use Rattle.runs.specs.History.{Event, read, write, round, eventState, after}
-use Rattle.runs.specs.Law.{noEvent, levelOf, voltageSet, IsWrite, Joined, FromHalves, limitAfter, latestLimit, Kills, noReading, overAny, Gathered, stateAt}
+use Rattle.runs.specs.Law.{noEvent, voltageSet, IsWrite, Joined, FromHalves, limitAfter, latestLimit, Kills, overAny, Gathered, stateAt}
 use Rattle.runs.proofs.Gathering.{new-gathered, wrote-gathered, round-gathered}
 use Rattle.runs.proofs.Histories.{EventTrue}
 use Rattle.runs.proofs.Keeping.{more, more-length, more-old, more-new, limit-more, HeldFrom, held-more, held-new, halves-more, joined-new, Down, down, stays-down, wrote-down}
@@ -170,8 +170,8 @@ module _ (b : Bool) (m : Model) (n : ℕ) where
           let q = kills .accepted-round in
           let same-x : kills .conditions ≡ x = cc in
           let same-rs : kills .readings ≡ rs = cc in
-          let over = subst (λ (y : Conditions). overAny (excessOf (roundPass b s y) (channelOf (s .table) k) (getD rs k noReading)) ≡ true) same-x
-          (subst (λ (ys : List Reading). overAny (excessOf (roundPass b s (kills .conditions)) (channelOf (s .table) k) (getD ys k noReading)) ≡ true) same-rs (kills .over)) in
+          let over = subst (λ (y : Conditions). overAny (excessOf (roundPass b s y) (channelOf (s .table) k) (readingOf rs k)) ≡ true) same-x
+          (subst (λ (ys : List Reading). overAny (excessOf (roundPass b s (kills .conditions)) (channelOf (s .table) k) (readingOf ys k)) ≡ true) same-rs (kills .over)) in
           let dead = round-kills b s x rs each (inv .whole) k (omega (arith, inv .counted)) (kills .kill-enable) over in
           down (dead .stored) (dead .is-off) (dead .at-zero)
 

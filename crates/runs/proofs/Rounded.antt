@@ -20,12 +20,12 @@ use Rattle.table.specs.Changes.{withVoltage}
 use Rattle.table.specs.Reads.{channelOf}
 use Rattle.table.specs.Round.{excessOf, setpointAfter, shutOff}
 use Rattle.table.specs.RoundLaws.{ChannelLaws, OverSome, Killed}
-use Rattle.module.specs.State.{State, count}
-use Rattle.module.specs.Rounds.{stepped, steppedFrom, oneEach, begunState, roundPass, accepted, roundState, roundAnswer}
+use Rattle.module.specs.State.{State, count, levelOf}
+use Rattle.module.specs.Rounds.{readingOf, stepped, steppedFrom, oneEach, begunState, roundPass, accepted, roundState, roundAnswer}
 use Rattle.module.specs.RoundLaws.{Placed, RoundLaws}
 use Rattle.module.specs.WriteLaws.{Whole}
 use Rattle.module.proofs.RoundLaws.{round-laws, record-stepped}
-use Rattle.runs.specs.Law.{levelOf, voltageSet, noReading, limitOf, foundBlocked, overAny}
+use Rattle.runs.specs.Law.{voltageSet, limitOf, foundBlocked, overAny}
 
 -- ---- what the steps of all channels keep
 
@@ -94,7 +94,7 @@ module _ (b : Bool) (s : State) (x : Conditions) (rs : List Reading) where
       placed : Placed s k
       placed = (low, omega (arith, whole .few, whole .records))
 
-      at : ChannelLaws (roundPass b s x) (channelOf (s .table) k) (getD rs k noReading) (levelOf s k) (channelOf (roundState b s x rs .table) k) (levelOf (roundState b s x rs) k)
+      at : ChannelLaws (roundPass b s x) (channelOf (s .table) k) (readingOf rs k) (levelOf s k) (channelOf (roundState b s x rs .table) k) (levelOf (roundState b s x rs) k)
       at = laws .each-channel k placed
 
       -- the set voltage stays, or is 0 where the loop is open
@@ -113,16 +113,16 @@ module _ (b : Bool) (s : State) (x : Conditions) (rs : List Reading) where
       round-kill = at .killed-is-at-zero .kept
 
       pub round-off : channelOf (s .table) k .on ≡ false → channelOf (roundState b s x rs .table) k .on ≡ false
-      round-off off = at .reads-on ∙ ap (λ (a : Bool). a && not (shutOff (roundPass b s x) (channelOf (s .table) k) (getD rs k noReading))) off
+      round-off off = at .reads-on ∙ ap (λ (a : Bool). a && not (shutOff (roundPass b s x) (channelOf (s .table) k) (readingOf rs k))) off
 
       pub round-down : channelOf (s .table) k .on ≡ false → levelOf s k ≡ 0 → levelOf (roundState b s x rs) k ≡ 0
       round-down off low-level = omega (arith, low-level, at .off-never-rises .stays-low (inl off))
 
       -- a reading over a limit with KillEnable on
-      pub round-kills : s .table .«kill_enable» ≡ true → overAny (excessOf (roundPass b s x) (channelOf (s .table) k) (getD rs k noReading)) ≡ true → Killed (channelOf (roundState b s x rs .table) k) (levelOf (roundState b s x rs) k)
+      pub round-kills : s .table .«kill_enable» ≡ true → overAny (excessOf (roundPass b s x) (channelOf (s .table) k) (readingOf rs k)) ≡ true → Killed (channelOf (roundState b s x rs .table) k) (levelOf (roundState b s x rs) k)
       round-kills enabled over =
-          let e = excessOf (roundPass b s x) (channelOf (s .table) k) (getD rs k noReading) in
-          let some : OverSome (roundPass b s x) (channelOf (s .table) k) (getD rs k noReading) =
+          let e = excessOf (roundPass b s x) (channelOf (s .table) k) (readingOf rs k) in
+          let some : OverSome (roundPass b s x) (channelOf (s .table) k) (readingOf rs k) =
           elim (or-cases (e .«voltage_limit») (e .«current_limit» || e .«current_set») over) [
             | inl v ↦ inl v
             | inr z ↦ inr (or-cases (e .«current_limit») (e .«current_set») z)

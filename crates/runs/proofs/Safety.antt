@@ -12,10 +12,10 @@ use Rattle.std.specs.declared.result.Result.the-variants.{Ok, Err}
 use Rattle.values.specs.declared.model.Model.{Model}
 use Rattle.table.specs.declared.records.Channel.{Channel}
 use Rattle.table.specs.Writes.{writtenAnswer}
-use Rattle.module.specs.State.{State, count, newState}
+use Rattle.module.specs.State.{State, count, levelOf, newState}
 use Rattle.module.specs.WriteLaws.{Whole}
 use Rattle.runs.specs.History.{Event, read, write, round, eventState, after}
-use Rattle.runs.specs.Law.{noEvent, levelOf, Leave, Clears, SwitchesOn, Kills, Restored, stateAt, Safe}
+use Rattle.runs.specs.Law.{noEvent, Leave, Clears, SwitchesOn, Kills, Restored, stateAt, Safe}
 use Rattle.runs.proofs.Histories.{EventTrue, Truthful, after-append, after-more, event-true, true-take}
 use Rattle.runs.proofs.Keeping.{more, Down, down, cleared, restored}
 use Rattle.runs.proofs.Lawful.{Inv, start, keep}

@@ -4,7 +4,7 @@ use mathlib.Core.List.{List, [], _∷_}
 use mathlib.Core.Logic.{_⊎_}
 use mathlib.Core.Path.{_≡_}
 use Prim.Native.Nat.{ℕ, _+_, _<_, _≤_}
-use lib.Ieee.{Float, nan}
+use lib.Ieee.{Float}
 use lib.ListN.{length, getD, take}
 use Rattle.std.specs.declared.result.Result.the-variants.{Ok, Err}
 use Rattle.values.specs.declared.model.Model.{Model}
@@ -21,19 +21,13 @@ use Rattle.table.specs.Orders.{setsEmergency, setsOn}
 use Rattle.table.specs.Reads.{channelOf}
 use Rattle.table.specs.Round.{begun, excessOf, judged}
 use Rattle.table.specs.Writes.{collected}
-use Rattle.module.specs.State.{State, count, newState}
-use Rattle.module.specs.Rounds.{roundPass}
+use Rattle.module.specs.State.{State, count, levelOf, newState}
+use Rattle.module.specs.Rounds.{readingOf, roundPass}
 use Rattle.runs.specs.Calls.{Asked, Told, runState}
 use Rattle.runs.specs.History.{Event, read, write, round, history, after}
 
 abbrev pub noEvent : Event
 noEvent = read 0 (Ok 0)
-
-abbrev pub noReading : Reading
-noReading = record { voltage = nan; current = nan; «inhibit_low» = false }
-
-abbrev pub levelOf : State → ℕ → ℕ
-levelOf s k = getD (s .levels) k 0
 
 abbrev pub voltageSet : State → ℕ → Float
 voltageSet s k = channelOf (s .table) k .setpoint .voltage
@@ -87,7 +81,7 @@ latestLimit l (e ∷ h) = latestLimit (limitAfter l e) h
 -- whether the round finds channel k blocked when it comes to move its level
 abbrev pub foundBlocked : Bool → State → Conditions → List Reading → ℕ → Bool
 foundBlocked regulates s x rs k =
-    blocked (modulePasses (begun (s .table) x)) (judged (roundPass regulates s x) (channelOf (s .table) k) (getD rs k noReading))
+    blocked (modulePasses (begun (s .table) x)) (judged (roundPass regulates s x) (channelOf (s .table) k) (readingOf rs k))
 
 -- the event e, in the state s, may raise channel k to a level: it is an accepted round that does not find the channel blocked,
 -- and the level is at most the ramp step higher
@@ -110,7 +104,7 @@ pub record Kills (regulates : Bool) (s : State) (e : Event) (k : ℕ) : Type 0 w
   pub readings : List Reading
   pub accepted-round : e ≡ round conditions readings (Ok tt)
   pub kill-enable : s .table .«kill_enable» ≡ true
-  pub over : overAny (excessOf (roundPass regulates s conditions) (channelOf (s .table) k) (getD readings k noReading)) ≡ true
+  pub over : overAny (excessOf (roundPass regulates s conditions) (channelOf (s .table) k) (readingOf readings k)) ≡ true
 
 -- an accepted ModuleControl with doCLEAR
 pub record Clears (e : Event) : Type 0 where
