@@ -1,5 +1,6 @@
 pub mod BlockLaws
 pub mod Blocking
+pub mod CallNumbers
 pub mod Listing
 pub mod RoundLaws
 pub mod RoundLawsExamples

@@ -1,5 +1,5 @@
 -- The laws of a round, for each channel.
-use mathlib.Core.Path.{_≡_, sym, subst, _∙_}
+use mathlib.Core.Path.{_≡_, refl, sym, subst, _∙_}
 use mathlib.Core.Bool.{Bool}
 use mathlib.Core.List.{List}
 use Prim.Native.Nat.{ℕ, _<_}
@@ -23,7 +23,7 @@ use Rattle.table.proofs.RoundLawsChannel.{channel-laws}
 use Rattle.module.specs.State.{State, count, levelOf}
 use Rattle.module.specs.Rounds.{readingOf, steppedFrom, oneEach, begunState, roundPass, accepted, roundState}
 use Rattle.module.specs.RoundLaws.{Placed, RoundLaws, EventsStay}
-use Rattle.module.proofs.RoundLawsSteps.{Turn, turn-of, level-at, record-at, placed-at, module-events-at, collected-events-at}
+use Rattle.module.proofs.RoundLawsSteps.{Turn, turn-of, level-at, record-at, placed-at, module-events-at, collected-events-at, held-at}
 
 module _ (regulates : Bool) (s : State) (x : Conditions) (rs : List Reading) where
   abbrev pass : Pass
@@ -67,6 +67,7 @@ module _ (regulates : Bool) (s : State) (x : Conditions) (rs : List Reading) whe
       channel-events = λ k h. laws-at k h .events-stay;
       kills = λ k h. laws-at k h .killed-is-at-zero .kept;
       channels = λ k h. placed-at pass began k (readingOf rs k) left (turn k (h .0)) h;
+      half = held-at pass rs began 0;
     }
 
     -- u is what the round left
@@ -88,6 +89,7 @@ refused-stays s = record {
   channel-events = λ k h. kept-self (channelOf (s .table) k .events);
   kills = λ k h e. e;
   channels = λ k h. h;
+  half = refl;
 }
 
 pub refused-not-accepted : (f : ModuleFault) → _≡_ {A = Result (Unit {0}) ModuleFault} (Err f) (Ok tt) → ⊥

@@ -103,3 +103,8 @@ module _ (p : Pass) where
   pub collected-events-at : (rs : List Reading) (s : State) (j : ℕ) → steppedFrom p s j rs .table .«channel_events» ≡ s .table .«channel_events»
   collected-events-at [] s j = refl
   collected-events-at (r ∷ rs) s j = collected-events-at rs (stepped p s j r) (j + 1)
+
+  -- and the held half
+  pub held-at : (rs : List Reading) (s : State) (j : ℕ) → steppedFrom p s j rs .table .held ≡ s .table .held
+  held-at [] s j = refl
+  held-at (r ∷ rs) s j = held-at rs (stepped p s j r) (j + 1)

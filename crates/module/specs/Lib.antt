@@ -1,6 +1,7 @@
 pub mod Answered
 pub mod BlockLaws
 pub mod Blocks
+pub mod CallNumbers
 pub mod RoundLaws
 pub mod RoundLawsExamples
 pub mod Rounds

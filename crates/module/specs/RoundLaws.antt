@@ -31,3 +31,5 @@ pub record EventsStay (s u : State) : Type 0 where
   pub channel-events : (k : ℕ) → Placed s k → Kept (channelOf (s .table) k .events) (channelOf (u .table) k .events)
   pub kills : (k : ℕ) → Placed s k → channelOf (s .table) k .kill ≡ true → channelOf (u .table) k .kill ≡ true
   pub channels : (k : ℕ) → Placed s k → Placed u k
+  -- a held half waits through a round
+  pub half : u .table .held ≡ s .table .held

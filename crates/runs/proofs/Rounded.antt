@@ -24,16 +24,12 @@ use Rattle.module.specs.State.{State, count, levelOf}
 use Rattle.module.specs.Rounds.{readingOf, stepped, steppedFrom, oneEach, begunState, roundPass, accepted, roundState, roundAnswer}
 use Rattle.module.specs.RoundLaws.{Placed, RoundLaws}
 use Rattle.module.specs.WriteLaws.{Whole}
-use Rattle.module.proofs.RoundLaws.{round-laws, record-stepped}
+use Rattle.module.proofs.RoundLaws.{round-laws, round-stays, record-stepped}
 use Rattle.runs.specs.Law.{voltageSet, limitOf, foundBlocked, overAny}
 
 -- ---- what the steps of all channels keep
 
 module _ (p : Pass) where
-  steps-held : (rs : List Reading) (s : State) (j : ℕ) → steppedFrom p s j rs .table .held ≡ s .table .held
-  steps-held [] s j = refl
-  steps-held (r ∷ rs) s j = steps-held rs (stepped p s j r) (j + 1)
-
   steps-count : (rs : List Reading) (s : State) (j : ℕ) → count (steppedFrom p s j rs) ≡ count s
   steps-count [] s j = refl
   steps-count (r ∷ rs) s j = steps-count rs (stepped p s j r) (j + 1) ∙ length-set (s .levels) j _
@@ -69,7 +65,7 @@ module _ (b : Bool) (s : State) (x : Conditions) (rs : List Reading) where
     is-accepted = cond-true (oneEach s rs) (accepted b s x rs) s (eq-eqb (length rs) (count s) each)
 
     pub round-held : roundState b s x rs .table .held ≡ s .table .held
-    round-held = ap (λ (u : State). u .table .held) is-accepted ∙ steps-held (roundPass b s x) rs (begunState s x) 0
+    round-held = round-stays b s x rs each (roundState b s x rs) refl .half
 
     pub round-count : count (roundState b s x rs) ≡ count s
     round-count = ap count is-accepted ∙ steps-count (roundPass b s x) rs (begunState s x) 0

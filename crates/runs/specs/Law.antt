@@ -32,6 +32,12 @@ noEvent = read 0 (Ok 0)
 abbrev pub voltageSet : State → ℕ → Float
 voltageSet s k = channelOf (s .table) k .setpoint .voltage
 
+abbrev pub killOf : State → ℕ → Bool
+killOf s k = channelOf (s .table) k .kill
+
+abbrev pub onOf : State → ℕ → Bool
+onOf s k = channelOf (s .table) k .on
+
 -- ---- no value from half a write
 
 -- a write access of any kind, refused or not
@@ -158,6 +164,14 @@ pub record Safe (regulates : Bool) (m : Model) (n : ℕ) (h : List Event) : Type
   pub killed : (i p k : ℕ) → i < p → p ≤ length h → k < n
       → Kills regulates (stateAt regulates m n h i) (getD h i noEvent) k
       → (levelOf (stateAt regulates m n h p) k ≡ 0) ⊎ Restored h i p k
+  -- nothing but a doCLEAR ends a kill
+  pub kill-ends : (p k : ℕ) → p < length h → k < n
+      → killOf (stateAt regulates m n h p) k ≡ true → killOf (stateAt regulates m n h (p + 1)) k ≡ false
+      → Clears (getD h p noEvent)
+  -- nothing but a switching on turns a channel on, and a channel that holds a kill not even that
+  pub turns-on : (p k : ℕ) → p < length h → k < n
+      → onOf (stateAt regulates m n h p) k ≡ false → onOf (stateAt regulates m n h (p + 1)) k ≡ true
+      → SwitchesOn (getD h p noEvent) k × (killOf (stateAt regulates m n h p) k ≡ false)
   -- after every access and round the channel events are collected, so a read has nothing to collect
   pub gathered : (p : ℕ) → p ≤ length h → Gathered (stateAt regulates m n h p)
 
