@@ -2,6 +2,7 @@ pub mod Answered
 pub mod BlockLaws
 pub mod Blocks
 pub mod CallNumbers
+pub mod Figures
 pub mod RoundLaws
 pub mod RoundLawsExamples
 pub mod Rounds

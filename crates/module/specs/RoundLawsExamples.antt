@@ -57,7 +57,7 @@ pub record RisesByHundreds (regulates : Bool) : Type 0 where
   pub once : oneRound regulates hundred (risingFrom 0) .levels ≡ 100 ∷ []
   pub twice : oneRound regulates hundred (oneRound regulates hundred (risingFrom 0)) .levels ≡ 200 ∷ []
 
--- under a VoltageMax of 25 its goal is 25,000, where isRAMP falls; there is no input error
+-- under a VoltageMax of 25 its goal is 25,000; there isRAMP is 0; there is no input error
 pub record StopsAtQuarter (regulates : Bool) (percent : Float) : Type 0 where
   pub goal : goalOf (roundPass regulates (risingFrom 0) (allGood percent)) risingChannel ≡ 25000
   pub no-status : channelOf (oneRound regulates percent (risingFrom 0) .table) 0 .error ≡ false

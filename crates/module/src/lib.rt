@@ -8,6 +8,7 @@ ghost use Rattle.module.specs.Rounds.{stepped, roundState, roundAnswer};
 ghost use Rattle.module.specs.State.{stateOf, newState, wordAnswer, writeState, writeAnswer, zeros};
 
 pub mod block;
+pub mod figures;
 pub mod laws;
 pub mod levels;
 pub mod round_laws;
