@@ -1,0 +1,4 @@
+mod Fitting
+mod Listed
+mod Naming
+mod Numerals
