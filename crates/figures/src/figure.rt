@@ -85,7 +85,7 @@ pub enum Outcome {
 }
 
 impl Figure {
-    pub fn outcome(self) -> Outcome
+    pub(crate) fn outcome(self) -> Outcome
         ensures { λ r. ⌜ r ≡ outcomeOf self ⌝ }
     {
         match self {

@@ -8,7 +8,7 @@ use std::str::SplitWhitespace;
 use values::Model;
 
 // None if it is no such line.
-pub fn parse_line(line: &str) -> Option<Vector> {
+pub(crate) fn parse_line(line: &str) -> Option<Vector> {
     let mut words = line.split_whitespace();
     let name = words.next()?;
     let figure = parse_figure(name, &mut words)?;

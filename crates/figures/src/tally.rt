@@ -10,13 +10,13 @@ pub struct Tally {
 }
 
 impl Tally {
-    pub fn new() -> Tally
+    pub(crate) fn new() -> Tally
         ensures { λ r. ⌜ (r .right ≡ 0) × (r .wrong ≡ 0) ⌝ }
     {
         Tally { right: 0, wrong: 0 }
     }
 
-    pub fn count(&mut self, right: bool)
+    pub(crate) fn count(&mut self, right: bool)
         ensures { λ _. ⌜ now (self .exit) ≡ counted (now (self .entry)) right ⌝ }
     {
         if right {

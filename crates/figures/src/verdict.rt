@@ -18,7 +18,7 @@ pub struct Vector {
 }
 
 impl Vector {
-    pub fn verdict(self) -> Verdict
+    pub(crate) fn verdict(self) -> Verdict
         ensures { λ r. ⌜ Judged (outcomeOf (self .figure)) (self .expected) r ⌝ }
     {
         let outcome = self.figure.outcome();
