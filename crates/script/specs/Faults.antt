@@ -4,7 +4,7 @@ use Rattle.std.specs.declared.result.Result.{Result}
 use Rattle.std.specs.declared.result.Result.the-variants.{Ok, Err}
 use Rattle.script.specs.declared.fault.ScriptFault.{ScriptFault}
 use Rattle.script.specs.declared.fault.Wrong.{Wrong}
-use Rattle.script.specs.declared.fault.Wrong.the-variants.{NoMemory}
+use Rattle.script.specs.declared.fault.Wrong.the-variants.{NoMemory, NotText}
 
 abbrev pub badLine : ℕ → Wrong → ScriptFault
 badLine n w = record { line = n; wrong = w }
@@ -15,3 +15,6 @@ atLine n (Err w) = Err (badLine n w)
 
 abbrev pub outOfMemory : Wrong
 outOfMemory = NoMemory
+
+abbrev pub notText : Wrong
+notText = NotText

@@ -70,7 +70,7 @@ impl Keyword {
 }
 
 impl StageKind {
-    pub fn named(name: &str) -> Option<StageKind>
+    pub(crate) fn named(name: &str) -> Option<StageKind>
         ensures { λ r. ⌜ r ≡ stageNamed (now (name .entry)) ⌝ }
     {
         match name {
@@ -80,7 +80,7 @@ impl StageKind {
         }
     }
 
-    pub fn name(self) -> &'static str
+    pub(crate) fn name(self) -> &'static str
         ensures { λ r. ⌜ now r ≡ stageName self ⌝ }
     {
         match self {
@@ -191,7 +191,7 @@ fn write_access(words: &[&str]) -> Result<Access, Wrong>
 }
 
 // A line of a block.
-pub fn block_access(words: &[&str]) -> Result<Access, Wrong>
+pub(crate) fn block_access(words: &[&str]) -> Result<Access, Wrong>
     ensures { λ r. ⌜ r ≡ accessLine (now (words .entry)) ⌝ }
 {
     match first_word(words) {
@@ -216,7 +216,7 @@ fn reading_of(
 }
 
 // A line of a round.
-pub fn round_reading(words: &[&str]) -> Result<Reading, Wrong>
+pub(crate) fn round_reading(words: &[&str]) -> Result<Reading, Wrong>
     ensures { λ r. ⌜ ReadsReading (now (words .entry)) r ⌝ }
 {
     expect_words(words, 3)?;
@@ -303,7 +303,7 @@ fn block_command(words: &[&str]) -> Result<Command, Wrong>
     Ok(Command::Block { accesses })
 }
 
-pub fn command_of(words: &[&str]) -> Result<Command, Wrong>
+pub(crate) fn command_of(words: &[&str]) -> Result<Command, Wrong>
     ensures { λ r. ⌜ ReadsCommand (now (words .entry)) r ⌝ }
 {
     match first_word(words) {

@@ -35,7 +35,7 @@ pub struct ScriptFault {
 }
 
 // What is wrong, with the line that it is wrong in.
-pub fn at_line<T>(line: usize, result: Result<T, Wrong>) -> Result<T, ScriptFault>
+pub(crate) fn at_line<T>(line: usize, result: Result<T, Wrong>) -> Result<T, ScriptFault>
     ensures { λ r. ⌜ r ≡ atLine line result ⌝ }
 {
     match result {

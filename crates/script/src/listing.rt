@@ -109,7 +109,7 @@ pub fn perform(heap: Global, script: Script) -> Result<Listing, AllocError>
 }
 
 // Whether the call was done; a block is done if all of its accesses are.
-pub fn is_done(answer: &Answer) -> bool
+pub(crate) fn is_done(answer: &Answer) -> bool
     ensures { λ r. ⌜ r ≡ doneBy (saidBy (now (answer .entry))) ⌝ }
 {
     match answer {
@@ -121,7 +121,7 @@ pub fn is_done(answer: &Answer) -> bool
 }
 
 // How many of the calls were done.
-pub fn done_count(replies: &[Reply]) -> usize
+pub(crate) fn done_count(replies: &[Reply]) -> usize
     ensures count { λ r. ⌜ r ≡ doneCount (map told (now (replies .entry))) ⌝ }
     ensures bound { λ r. ⌜ r ≤ length (now (replies .entry)) ⌝ }
 {
@@ -135,7 +135,7 @@ pub fn done_count(replies: &[Reply]) -> usize
 }
 
 // Both are of one module, so the counts are the same.
-pub fn same_levels(a: &Levels, b: &Levels) -> bool
+pub(crate) fn same_levels(a: &Levels, b: &Levels) -> bool
     ensures { λ r. ⌜ r ≡ sameLevels (now (a .entry)) (now (b .entry)) ⌝ }
 {
     a.steps == b.steps

@@ -19,7 +19,7 @@ fn is_numeral(text: &str, radix: u32) -> bool
 }
 
 // One to four hexadecimal digits.
-pub fn hex_word(text: &str) -> Option<u16>
+pub(crate) fn hex_word(text: &str) -> Option<u16>
     ensures { λ r. ⌜ r ≡ hexWord (now (text .entry)) ⌝ }
 {
     if text.len() <= 4 && is_numeral(text, 16) {
@@ -30,7 +30,7 @@ pub fn hex_word(text: &str) -> Option<u16>
 }
 
 // Decimal digits; a number that is too large is taken as the largest.
-pub fn decimal(text: &str) -> Option<usize>
+pub(crate) fn decimal(text: &str) -> Option<usize>
     ensures { λ r. ⌜ r ≡ decimalNumber (now (text .entry)) ⌝ }
 {
     if is_numeral(text, 10) {
@@ -52,7 +52,7 @@ fn bit_pattern(text: &str) -> Option<u32>
 }
 
 // A decimal number, or the bit pattern of a binary32 after `0x`.
-pub fn amount(text: &str) -> Option<f32>
+pub(crate) fn amount(text: &str) -> Option<f32>
     ensures { λ r. ⌜ ReadsAmount (now (text .entry)) r ⌝ }
 {
     match text.strip_prefix("0x") {

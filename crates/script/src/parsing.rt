@@ -1,6 +1,8 @@
 // A script from its text.
+ghost use mathlib.Core.Path.{_≡_};
 ghost use Prim.Native.Nat.{_<_};
 ghost use Rattle.std.specs.Results.{Cases};
+ghost use Rattle.script.specs.Faults.{notText};
 use crate::fault::ScriptFault;
 use crate::fault::Wrong;
 use crate::fault::at_line;
@@ -28,7 +30,7 @@ pub fn parse(heap: Global, text: &str) -> Result<Script, ScriptFault>
 
 // The text of a script, if it is UTF-8.
 pub fn text_of(bytes: &[u8]) -> Result<&str, ScriptFault>
-    ensures { λ r. ⌜ Cases r (λ _. Unit {0}) (λ f. 0 < f .line) ⌝ }
+    ensures { λ r. ⌜ Cases r (λ s. now s ≡ now (bytes .entry)) (λ f. (0 < f .line) × (f .wrong ≡ notText)) ⌝ }
 {
     match std::str::from_utf8(bytes) {
         Ok(text) => Ok(text),

@@ -184,7 +184,7 @@ fn with_reading(
 }
 
 impl Reader {
-    pub fn new(heap: Global) -> Reader
+    pub(crate) fn new(heap: Global) -> Reader
         ensures { λ r. ⌜ progressOf r ≡ progress None [] nothing ⌝ }
     {
         Reader {
@@ -195,7 +195,7 @@ impl Reader {
     }
 
     // One more line, by its words.
-    pub fn take(self, heap: Global, words: &[&str]) -> Result<Reader, Wrong>
+    pub(crate) fn take(self, heap: Global, words: &[&str]) -> Result<Reader, Wrong>
         ensures { λ r. ⌜ Takes (progressOf self) (now (words .entry)) r ⌝ }
     {
         let Reader {
@@ -224,7 +224,7 @@ impl Reader {
     }
 
     // The script, if it may end here.
-    pub fn finish(self) -> Result<Script, Wrong>
+    pub(crate) fn finish(self) -> Result<Script, Wrong>
         ensures { λ r. ⌜ wholeBy r ≡ ended (progressOf self) ⌝ }
     {
         let Reader {

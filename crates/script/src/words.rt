@@ -1,6 +1,7 @@
 // The words of a line, up to its comment.
+ghost use mathlib.Core.Path.{_≡_};
 ghost use Prim.Native.Nat.{_≤_};
-ghost use lib.ListN.{length};
+ghost use lib.ListN.{take};
 
 // Every command has fewer words.
 const MOST_WORDS: usize = 8;
@@ -22,7 +23,7 @@ fn before_comment(line: &str) -> &str {
 }
 
 impl<'a> Words<'a> {
-    pub fn of(line: &'a str) -> Words<'a>
+    pub(crate) fn of(line: &'a str) -> Words<'a>
         ensures { λ r. ⌜ r .count ≤ 8 ⌝ }
     {
         let mut count = 0;
@@ -36,8 +37,8 @@ impl<'a> Words<'a> {
         Words { count, list }
     }
 
-    pub fn as_slice(&self) -> &[&'a str]
-        ensures { λ r. ⌜ length (now r) ≤ 8 ⌝ }
+    pub(crate) fn as_slice(&self) -> &[&'a str]
+        ensures { λ r. ⌜ now r ≡ take (now (self .entry) .count) (now (self .entry) .list) ⌝ }
     {
         &self.list[0..self.count]
     }
