@@ -1,4 +1,6 @@
 // Runs a bench script, from standard input or from the file that its one argument names, and prints what its calls were answered.
+#![tactic(auto)]
+
 use script::{ScriptFault, parse, perform, text_of};
 use std::alloc::AllocError;
 use std::io::{BufWriter, Read, Write};

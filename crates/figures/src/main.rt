@@ -1,5 +1,7 @@
 // Compares figures of the crate `values` with expected ones: a figure to a line of the input.
 // A blank line and one that begins with # are passed over.
+#![tactic(auto)]
+
 mod figure;
 mod parse;
 mod tally;

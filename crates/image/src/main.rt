@@ -1,4 +1,6 @@
 // Prints the image of a new four-channel 2,000 V module on a direct stage: an offset and its word to a line.
+#![tactic(auto)]
+
 use module::Module;
 use register_image::{IMAGE_BYTES, ImageReader, write_image};
 use registers::ModuleFault;

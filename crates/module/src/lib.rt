@@ -1,4 +1,6 @@
 // A module: the table of its registers over an output stage.
+#![tactic(auto)]
+
 ghost use Rattle.std.specs.Prelude.{◌≡◌, ◌<◌, ◌≤◌, length, Ok};
 ghost use Rattle.module.specs.RoundLaws.{RoundLaws, EventsStay};
 ghost use Rattle.module.specs.Rounds.{stepped, round_state, round_answer};

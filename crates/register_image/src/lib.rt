@@ -1,4 +1,6 @@
 // The image of a module: its words at offsets 0000 to 03FF in order, big end first, in 1,024 bytes.
+#![tactic(auto)]
+
 ghost use Rattle.std.specs.Prelude.{◌≡◌, Ok};
 ghost use Rattle.register_image.specs.Image.{sized};
 ghost use Rattle.register_image.specs.Laws.{ReadsBack};

@@ -1,4 +1,6 @@
 // The registers of a module: where each stands, which may be written, and how a module refuses.
+#![tactic(auto)]
+
 pub mod fault;
 pub mod map;
 pub mod place;

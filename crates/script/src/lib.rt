@@ -1,4 +1,6 @@
 // Bench scripts: what a script says, the run of its calls, and the listing of what they were answered.
+#![tactic(auto)]
+
 pub mod command;
 pub mod fault;
 pub mod listing;

@@ -1,4 +1,6 @@
 // Tests of what is read from the text of a script, and of what is written.
+#![tactic(auto)]
+
 #[cfg(test)]
 mod tests {
     use script::{parse, perform};

@@ -1,5 +1,7 @@
 // Times a twelve-channel 2,000 V module on both stages.
 // A checksum of all that was done goes to standard output, nanoseconds a call to standard error.
+#![tactic(auto)]
+
 mod checksum;
 mod times;
 mod work;

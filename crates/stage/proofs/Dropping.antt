@@ -4,7 +4,7 @@ use Rattle.std.proofs.lemmas.List.{length-map, length-take-le, length-set, get_o
 use Rattle.stage.specs.declared.distributor.DistributorStage.{DistributorStage}
 use Rattle.stage.specs.Levels.{highest_level, most_channels, AtMost, drivable}
 use Rattle.stage.specs.Drops.{highest, minus_each, levels_of, KeepsTop}
-use Rattle.stage.specs.Driving.{DrivenTo, take_of_set, at_most_take, at_most_set, level_at_most, first_driven}
+use Rattle.stage.specs.Driving.{DrivenTo, take_of_set, at_most_take, at_most_set, minus_each_at_most, levels_at_most, level_at_most, first_driven}
 
 pub at_most_highest : (xs : List ℕ) → AtMost (highest xs) xs
 at_most_highest [] k = zero-le
@@ -14,14 +14,6 @@ at_most_highest (x ∷ xs) (suc k) = omega (arith, at_most_highest xs k)
 pub highest_at_most : (b : ℕ) (xs : List ℕ) → AtMost b xs → highest xs ≤ b
 highest_at_most b [] h = zero-le
 highest_at_most b (x ∷ xs) h = omega (arith, h zero, highest_at_most b xs (λ k. h (suc k)))
-
-pub minus_each_at_most : (c : ℕ) (xs : List ℕ) → AtMost c (minus_each c xs)
-minus_each_at_most c [] k = zero-le
-minus_each_at_most c (x ∷ xs) zero = omega arith
-minus_each_at_most c (x ∷ xs) (suc k) = minus_each_at_most c xs k
-
-pub levels_at_most : (n b c : ℕ) (ds : List ℕ) → c ≤ b → AtMost b (levels_of n c ds)
-levels_at_most n b c ds l = at_most_take n (minus_each c ds) (λ k. omega (arith, minus_each_at_most c ds k))
 
 pub length_levels : (n c : ℕ) (ds : List ℕ) → n ≤ length ds → length (levels_of n c ds) ≡ n
 length_levels n c ds h = length-take-le n (minus_each c ds) (simp length-map h)

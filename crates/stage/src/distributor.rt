@@ -2,6 +2,7 @@
 ghost use Rattle.std.specs.Prelude.{◌≡◌, ◌≤◌, true, false, length, replicate};
 ghost use Rattle.stage.specs.Levels.{highest_level, most_channels, AtMost, taken};
 ghost use Rattle.stage.specs.Drops.{highest, minus_each, levels_of, KeepsTop};
+ghost use Rattle.stage.specs.Driving.{levels_at_most};
 ghost use Rattle.std.proofs.Common.{rules, arith};
 
 use crate::{MOST_CHANNELS, Stage, StageFault, can_drive, taken_count};
@@ -84,7 +85,7 @@ impl Stage for DistributorStage {
 
     ghost few = { first_of (Prim.search rules, Prim.grind (arith, Self.row.coded.inj)) };
 
-    ghost bounded = { first_of (Prim.search rules, Prim.grind (arith, Self.row.coded.inj)) };
+    ghost bounded = { λ s. levels_at_most s.count highest_level s.common s.drops s.bounded };
 
     fn regulating() -> bool {
         Self::REGULATES

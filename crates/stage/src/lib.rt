@@ -1,4 +1,6 @@
 // Output stages of a high voltage module: what a stage is, and two kinds of it.
+#![tactic(auto)]
+
 ghost use Rattle.std.specs.Prelude.{◌≡◌, ℕ, ◌≤◌, Bool, List, length, take, replicate};
 ghost use Rattle.stage.specs.Levels.{highest_level, most_channels, AtMost, taken, drivable, level_answer, drive_answer, driven};
 ghost use Rattle.stage.specs.Laws.{RefusalHolds, DriveHolds};

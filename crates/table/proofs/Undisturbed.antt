@@ -1,6 +1,6 @@
 -- A round settles a channel that nothing disturbs.
 use Rattle.std.proofs.Common.{◌≡◌, Bool, true, false, not, ◌&&◌, sym, refl, ap, ◌∙◌, add-zero, zero-add}
-use mathlib.Core.Bool.{and-true, and-false, or_false}
+use mathlib.Core.Bool.{and-true, and-false, or-false}
 use lib.Bits.{or_zero_r}
 use lib.Ieee.{lt}
 use Rattle.std.proofs.lemmas.Bool.{and_parts, not-true}
@@ -58,7 +58,7 @@ module _ (p : Pass) (c : Channel) (r : Reading) (x : Excess) (d : Channel) (b : 
 
   settles : settled (with_reading c r) ≡ judged p c r
   settles =
-      simp (facts.closed, facts.high, facts.under_voltage, facts.under_current, facts.under_set, facts.no_voltage_bounds, facts.no_current_bounds, and-false, and-true, or_false, and_not, or_zero_r, zero-add, add-zero)
+      simp (facts.closed, facts.high, facts.under_voltage, facts.under_current, facts.under_set, facts.no_voltage_bounds, facts.no_current_bounds, and-false, and-true, or-false, and_not, or_zero_r, zero-add, add-zero)
 
   pub is_settled : settled d ≡ judged p c r
   is_settled = ap settled stored ∙ settles

@@ -1,4 +1,6 @@
 // The module's plain inner table: what each channel and the module keep, and what its registers read.
+#![tactic(auto)]
+
 pub mod carrying;
 pub mod change;
 pub mod channel;

@@ -1,3 +1,5 @@
+#![tactic(auto)]
+
 pub mod model;
 pub mod ranges;
 pub mod steps;

@@ -10,8 +10,8 @@ loop-channel-init g c = refl
 pub loop-channel-preserved : goal.loop-channel-preserved
 loop-channel-preserved g c =
     let ls = g.S.Stage.levels c.args.self.now.stage in
-    listed_more c.loop-channel.channel ls c.loop-channel.steps c.loop-channel.invariant c.unwrap-or.result (omega arith) (g.met.S.Stage.few c.args.self.now.stage)
-    (c.unwrap-or.ensures ∙ ap (λ (r : Result ℕ StageFault). result_unwrap_or r 0) c.level.ensures)
+    listed_more c.loop-channel.channel ls c.loop-channel.steps c.loop-channel.invariant c.unwrap_or.result (omega arith) (g.met.S.Stage.few c.args.self.now.stage)
+    (c.unwrap_or.ensures ∙ ap (λ (r : Result ℕ StageFault). result_unwrap_or r 0) c.level.ensures)
 
 pub returns : goal.returns
 returns g c =

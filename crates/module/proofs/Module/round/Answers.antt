@@ -10,16 +10,16 @@ use Rattle.module.proofs.Module.round.Goals as goal
 pub step-requires : goal.step-requires
 step-requires g c = (
   omega (arith, c.loop-channel.invariant.1, c.loop-channel-test.true),
-  limit_low c.regulating.result c.args.self.now.table c.begin-round.new.self c.args.conditions.now c.fix-round-pass.result c.fix-round-pass.ensures c.begin-round.ensures,
+  limit_low c.regulating.result c.args.self.now.table c.begin_round.new.self c.args.conditions.now c.fix_round-pass.result c.fix_round-pass.ensures c.begin_round.ensures,
 )
 
 pub loop-channel-preserved : goal.loop-channel-preserved
 loop-channel-preserved g c =
     let lv = g.S.Stage.levels in
-    let e : State = record { table = c.begin-round.new.self; levels = lv c.args.self.now.stage } in
-    let moved = c.in-ok-step.ensures.state in (
-      step_more c.fix-round-pass.result e (state_of lv c.loop-channel.self) c.loop-channel.channel c.args.readings.now c.loop-channel.invariant.0 (state_of lv c.step.new.self) c.loop-channel-test.true moved,
-      step_length c.fix-round-pass.result (state_of lv c.loop-channel.self) (state_of lv c.step.new.self) c.loop-channel.channel _ moved ∙ c.loop-channel.invariant.1,
+    let e : State = record { table = c.begin_round.new.self; levels = lv c.args.self.now.stage } in
+    let moved = c.in_ok-step.ensures.state in (
+      step_more c.fix_round-pass.result e (state_of lv c.loop-channel.self) c.loop-channel.channel c.args.readings.now c.loop-channel.invariant.0 (state_of lv c.step.new.self) c.loop-channel-test.true moved,
+      step_length c.fix_round-pass.result (state_of lv c.loop-channel.self) (state_of lv c.step.new.self) c.loop-channel.channel _ moved ∙ c.loop-channel.invariant.1,
     )
 
 -- there is not one reading for each channel
@@ -36,13 +36,13 @@ returns g c =
     let lv = g.S.Stage.levels in
     let s = state_of lv c.args.self.now in
     let rs = c.args.readings.now in
-    let p = c.fix-round-pass.result in
-    let e : State = record { table = c.begin-round.new.self; levels = s.levels } in
+    let p = c.fix_round-pass.result in
+    let e : State = record { table = c.begin_round.new.self; levels = s.levels } in
     let m = state_of lv c.loop-channel.self in
     let counted : length rs ≡ length s.levels = omega (arith, c.if-readings-count.false, c.count-count.ensures) in
     let all = step_all p e m c.loop-channel.channel rs c.loop-channel.invariant.0 c.loop-channel-test.false in
-    let begins = ap (λ (t : Table). let r : State = record { table = t; levels = s.levels } in stepped_from p r 0 rs) c.begin-round.ensures in
-    let is_p = c.fix-round-pass.ensures ∙ ap (pass_of c.regulating.result) c.begin-round.ensures ∙ ap (λ (b : Bool). pass_of b (begun s.table c.args.conditions.now)) c.regulating.ensures in
+    let begins = ap (λ (t : Table). let r : State = record { table = t; levels = s.levels } in stepped_from p r 0 rs) c.begin_round.ensures in
+    let is_p = c.fix_round-pass.ensures ∙ ap (pass_of c.regulating.result) c.begin_round.ensures ∙ ap (λ (b : Bool). pass_of b (begun s.table c.args.conditions.now)) c.regulating.ensures in
     let x = c.args.conditions.now in
     let u : State = record { table = c.collect.new.self; levels = m.levels } in
     let left = state_done g.S.Stage.regulating s x rs counted p m c.count-count.result c.collect.new.self is_p (all ∙ begins) (omega (arith, counted, c.loop-channel.invariant.1, c.count-count.ensures)) c.collect.ensures in

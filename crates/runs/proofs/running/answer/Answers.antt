@@ -9,7 +9,7 @@ pub returns-in-Block : goal.returns-in-Block
 returns-in-Block g c =
     let s = state_of g.S.Stage.levels c.args.module.now in
     let k : asked c.args.call ≡ blocks (vec_items c.in-Block.accesses) = ap asked c.in-Block.is in
-    let e = c.block-end.ensures.end ∙ ap (block_end 0 s) c.as-mut-slice.ensures.value in
+    let e = c.block-end.ensures.end ∙ ap (block_end 0 s) c.as_mut_slice.ensures.value in
     let whole = with_items_is c.in-Block.accesses c.block-end.new.list (omega arith) in
     record {
       state = ap (λ (b : BlockEnd). b.state) e ∙ sym (ap (call_state g.S.Stage.regulating s) k);

@@ -3,7 +3,7 @@ use Rattle.std.proofs.lemmas.List.{nil_from_length}
 use Rattle.script.specs.Commands.{keyword_named, word_at}
 use Rattle.script.proofs.command.first_word.Goals as goal
 
-pub returns-then-is-empty : goal.returns-then-is-empty
-returns-then-is-empty c =
+pub returns-then-is_empty : goal.returns-then-is_empty
+returns-then-is_empty c =
     ap (λ (ws : List (Bor (List ℕ))). keyword_named (word_at ws 0))
-    (sym (nil_from_length c.args.words.now (eqb-true _ _ (sym c.is-empty.ensures ∙ c.if-is-empty.true))))
+    (sym (nil_from_length c.args.words.now (eqb-true _ _ (sym c.is_empty.ensures ∙ c.if-is_empty.true))))

@@ -4,7 +4,7 @@ use Rattle.script.proofs.command.round_command.Goals as goal
 pub returns : goal.returns
 returns c =
     record {
-      misfit = λ h. absurd (h (as_many 7 c.args.words.now c.in-ok-expect-words.ensures));
+      misfit = λ h. absurd (h (as_many 7 c.args.words.now c.in_ok-expect_words.ensures));
       fit = λ _. (
         c.amount.result,
         c.amount-2.result,

@@ -6,12 +6,12 @@ use Rattle.script.proofs.command.round_reading.Goals as goal
 pub returns : goal.returns
 returns c =
     record {
-      misfit = λ h. absurd (h (as_many 3 c.args.words.now c.in-ok-expect-words.ensures));
+      misfit = λ h. absurd (h (as_many 3 c.args.words.now c.in_ok-expect_words.ensures));
       fit = λ _. (
         c.amount.result,
         c.amount-2.result,
         c.amount.ensures,
         c.amount-2.ensures,
-        c.reading-of.ensures ∙ ap (reading_by c.amount.result c.amount-2.result) c.choice.ensures,
+        c.reading_of.ensures ∙ ap (reading_by c.amount.result c.amount-2.result) c.choice.ensures,
       );
     }

@@ -9,8 +9,8 @@ pub loop-call-preserved : goal.loop-call-preserved
 loop-call-preserved c =
     let cs = c.args.calls.now in
     let i = c.loop-call.call-index in
-    c.in-ok-push.ensures.items
-    ∙ ap (λ (e : Echo). vec_items c.loop-call.echoes ++ e ∷ []) c.echo-of.ensures
+    c.in_ok-push.ensures.items
+    ∙ ap (λ (e : Echo). vec_items c.loop-call.echoes ++ e ∷ []) c.echo_of.ensures
     ∙ ap (λ (es : List Echo). es ++ echo_of c.call-item.result ∷ []) c.loop-call.invariant
     ∙ sym (echoes_more cs i c.call-item.result c.loop-call-test.true c.call-item.is)
 

@@ -5,7 +5,7 @@ use Rattle.script.specs.Faults.{at_line}
 use Rattle.script.specs.Progress.{progress_of, ended}
 use Rattle.script.proofs.Parsed.{ends, line_parsed, last_parsed, none_parsed, no_bytes, shorter}
 use Rattle.script.proofs.parsing.parse.Goals as goal
-use Rattle.script.proofs.parsing.parse.Goals.{then-not-is-empty+in-ok-reader-2, else-not-is-empty}
+use Rattle.script.proofs.parsing.parse.Goals.{then-not-is_empty+in_ok-reader-2, else-not-is_empty}
 
 pub loop-text-preserved : goal.loop-text-preserved
 loop-text-preserved c =
@@ -15,43 +15,43 @@ loop-text-preserved c =
     let parts = split_parts 10 rest (Some (c.in-Some.text, c.in-Some.after)) c.in-Some.ensures.cases (omega arith) in (
       search rules,
       omega (arith, c.loop-text.invariant.1, shorter rest line after parts.0),
-      λ r k. c.loop-text.invariant.2 r (line_parsed rest line after parts c.loop-text.line (progress_of c.loop-text.reader) c.unreturned.result.now c.unreturned.ensures (Ok c.in-ok-reader.reader) c.in-ok-reader.ensures r k),
+      λ r k. c.loop-text.invariant.2 r (line_parsed rest line after parts c.loop-text.line (progress_of c.loop-text.reader) c.unreturned.result.now c.unreturned.ensures (Ok c.in_ok-reader.reader) c.in_ok-reader.ensures r k),
     )
 
-pub returns-in-err-reader : goal.returns-in-err-reader
-returns-in-err-reader c =
+pub returns-in_err-reader : goal.returns-in_err-reader
+returns-in_err-reader c =
     let rest = c.loop-text.rest.now in
-    let fault = c.in-err-reader.field-0.0 in
+    let fault = c.in_err-reader.field-0.0 in
     let parts = split_parts 10 rest (Some (c.in-Some.text, c.in-Some.after)) c.in-Some.ensures.cases (omega arith) in
-    let e : c.from-residual.result ≡ Err fault = search rules in
-    c.loop-text.invariant.2 c.from-residual.result (line_parsed rest c.in-Some.text.now c.in-Some.after.now parts c.loop-text.line (progress_of c.loop-text.reader) c.unreturned.result.now c.unreturned.ensures (Err fault) c.in-err-reader.ensures c.from-residual.result e)
+    let e : c.from_residual.result ≡ Err fault = search rules in
+    c.loop-text.invariant.2 c.from_residual.result (line_parsed rest c.in-Some.text.now c.in-Some.after.now parts c.loop-text.line (progress_of c.loop-text.reader) c.unreturned.result.now c.unreturned.ensures (Err fault) c.in_err-reader.ensures c.from_residual.result e)
 
-pub returns-in-err-reader-2 : goal.returns-in-err-reader-2
-returns-in-err-reader-2 c =
+pub returns-in_err-reader-2 : goal.returns-in_err-reader-2
+returns-in_err-reader-2 c =
     let rest = c.loop-text.rest.now in
-    let r = c.from-residual-in-err-reader-2.result in
-    let fault = c.in-err-reader-2.field-0.0 in
+    let r = c.from_residual-in_err-reader-2.result in
+    let fault = c.in_err-reader-2.field-0.0 in
     let none = split_parts 10 rest None c.in-default.ensures.cases (omega arith) in
     let e : r ≡ Err fault = search rules in
-    c.loop-text.invariant.2 r (last_parsed rest none c.loop-text.line (progress_of c.loop-text.reader) r (c.if-not-is-empty.ensures ∙ sym (no_bytes rest)) (Err fault) c.in-err-reader-2.ensures e)
+    c.loop-text.invariant.2 r (last_parsed rest none c.loop-text.line (progress_of c.loop-text.reader) r (c.if-not-is_empty.ensures ∙ sym (no_bytes rest)) (Err fault) c.in_err-reader-2.ensures e)
 
 pub returns : goal.returns
 returns c =
     let rest = c.loop-text.rest.now in
-    let r = c.at-line.result in
+    let r = c.at_line.result in
     let none = split_parts 10 rest None c.in-default.ensures.cases (omega arith) in
-    elim c.if-not-is-empty.branch [
-      | then-not-is-empty+in-ok-reader-2 w ↦
-          let last = w.in-ok-reader-2.reader in
+    elim c.if-not-is_empty.branch [
+      | then-not-is_empty+in_ok-reader-2 w ↦
+          let last = w.in_ok-reader-2.reader in
           c.loop-text.invariant.2 r
-          (last_parsed rest none c.loop-text.line (progress_of c.loop-text.reader) r (w.if-not-is-empty.ensures ∙ sym (no_bytes rest)) (Ok last) w.in-ok-reader-2.ensures
+          (last_parsed rest none c.loop-text.line (progress_of c.loop-text.reader) r (w.if-not-is_empty.ensures ∙ sym (no_bytes rest)) (Ok last) w.in_ok-reader-2.ensures
           (ends (c.loop-text.line + 1) (progress_of last) c.finish.result r
-          (c.at-line.ensures ∙ ap (λ (n : ℕ). at_line n c.finish.result) w.line-is)
+          (c.at_line.ensures ∙ ap (λ (n : ℕ). at_line n c.finish.result) w.line-is)
           (c.finish.ensures ∙ ap (λ (q : Reader). ended (progress_of q)) w.reader-is)))
-      | else-not-is-empty w ↦
+      | else-not-is_empty w ↦
           c.loop-text.invariant.2 r
-          (none_parsed rest none c.loop-text.line (progress_of c.loop-text.reader) r (w.if-not-is-empty.ensures ∙ sym (no_bytes rest))
+          (none_parsed rest none c.loop-text.line (progress_of c.loop-text.reader) r (w.if-not-is_empty.ensures ∙ sym (no_bytes rest))
           (ends c.loop-text.line (progress_of c.loop-text.reader) c.finish.result r
-          (c.at-line.ensures ∙ ap (λ (n : ℕ). at_line n c.finish.result) w.line-is)
+          (c.at_line.ensures ∙ ap (λ (n : ℕ). at_line n c.finish.result) w.line-is)
           (c.finish.ensures ∙ ap (λ (q : Reader). ended (progress_of q)) w.reader-is)))
     ]

@@ -7,6 +7,6 @@ use Rattle.script.proofs.reader.with_call.Goals as goal
 
 pub returns : goal.returns
 returns c =
-    let pushed = chosen _ _ _ _ c.push.ensures.items (ap is_ok c.in-ok-push.was) in
+    let pushed = chosen _ _ _ _ c.push.ensures.items (ap is_ok c.in_ok-push.was) in
     ap (λ (cs : List Asked). Ok (progress c.args.setup cs nothing))
     (sym (ap (map asked) pushed ∙ map-append asked (vec_items c.args.calls) (c.args.call ∷ [])))

@@ -7,7 +7,7 @@ use Rattle.stage.proofs.distributor.minus_each.Goals as goal
 pub loop-i-preserved : goal.loop-i-preserved
 loop-i-preserved c =
     let h : c.loop-i.i < length c.args.values = omega arith in
-    ap (set c.loop-i.values c.loop-i.i) c.saturating-sub.ensures
+    ap (set c.loop-i.values c.loop-i.i) c.saturating_sub.ensures
     ∙ map_over_more (λ x. c.args.common - x) c.args.values c.loop-i.values c.loop-i.i _ h c.loop-i.invariant (get_d_again c.loop-i.values c.loop-i.i 0)
 
 pub returns : goal.returns

@@ -4,4 +4,4 @@ use Rattle.table.specs.Reads.{any_of}
 use Rattle.table.proofs.carrying.any_refuses_switch.Given as goal
 
 abbrev pub invariant-loop-channel : goal.invariant-loop-channel
-invariant-loop-channel l = any_of (switch_refused l.module-passes) (drop l.channel-index l.channels) ≡ any_of (switch_refused l.module-passes) l.channels
+invariant-loop-channel l = any_of (switch_refused l.module_passes) (drop l.channel-index l.channels) ≡ any_of (switch_refused l.module_passes) l.channels

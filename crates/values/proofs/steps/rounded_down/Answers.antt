@@ -1,4 +1,5 @@
 use Rattle.std.proofs.Common.{ℕ, ◌/◌, min, T, pos, sym, ap, ◌∙◌, subst, arith}
+
 use lib.Ieee.{Float, binary64, mul, of_int, to_unsigned}
 use Rattle.values.proofs.Exact.{rounded_down_lem}
 use Rattle.values.proofs.steps.rounded_down.Goals as goal
@@ -8,5 +9,5 @@ returns c =
     let a = c.args.numerator in
     let b = c.args.denominator in
     c.min.ensures
-    ∙ ap (λ (n : ℕ). min (n / b) 4294967295) (c.saturating-f64-to-u64-whole.ensures ∙ ap (λ (x : Float). to_unsigned 64 (mul binary64 x (of_int binary64 (pos a)))) c.f32-to-f64-with-nan.ensures)
-    ∙ rounded_down_lem b (omega arith) (omega arith) a (omega arith) (omega arith) c.args.value (subst T (sym c.well-formed.0.1) tt)
+    ∙ ap (λ (n : ℕ). min (n / b) 4294967295) (c.saturating_f64_to_u64-whole.ensures ∙ ap (λ (x : Float). to_unsigned 64 (mul binary64 x (of_int binary64 (pos a)))) c.f32_to_f64_with_nan.ensures)
+    ∙ rounded_down_lem b (omega arith) (omega arith) a (omega arith) (omega arith) c.args.value (grind arith)

@@ -5,7 +5,7 @@ use Rattle.values.proofs.steps.set_steps.Goals as goal
 
 pub returns : goal.returns
 returns c =
-    let e : c.rounded-down.result ≡ set_steps c.args.model c.args.volts =
-    c.rounded-down.ensures ∙ ap (λ (b : ℕ). rounded_down 100000 b c.args.volts) c.volts.ensures
+    let e : c.rounded_down.result ≡ set_steps c.args.model c.args.volts =
+    c.rounded_down.ensures ∙ ap (λ (b : ℕ). rounded_down 100000 b c.args.volts) c.volts.ensures
     in
-    record { value = e; last = set_last c.args.model c.args.volts c.rounded-down.result e }
+    record { value = e; last = set_last c.args.model c.args.volts c.rounded_down.result e }

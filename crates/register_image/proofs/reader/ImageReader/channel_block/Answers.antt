@@ -4,5 +4,5 @@ use Rattle.register_image.proofs.reader.ImageReader.channel_block.Goals as goal
 
 pub returns : goal.returns
 returns c =
-    placed_block c.args.self.now.bytes.now c.args.channel c.in-ok-placed.placed
-    c.in-ok-placed.ensures (omega arith) c.if-placed-channel-eq0.false
+    placed_block c.args.self.now.bytes.now c.args.channel c.in_ok-placed.placed
+    c.in_ok-placed.ensures (omega arith) c.if-placed-channel-eq0.false

@@ -4,4 +4,4 @@ use Rattle.script.proofs.words.Words.add.Goals as goal
 pub returns-then-self-lt-MOST-WORDS : goal.returns-then-self-lt-MOST-WORDS
 returns-then-self-lt-MOST-WORDS c =
     let s = c.args.self.now in
-    word_added s.list s.count c.args.word s.whole c.if-self-lt-MOST-WORDS.true c.if-not-is-empty.ensures
+    word_added s.list s.count c.args.word s.whole c.if-self-lt-MOST-WORDS.true c.if-not-is_empty.ensures
