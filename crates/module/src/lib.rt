@@ -28,7 +28,7 @@ pub struct Module<S: Stage> {
 impl<S: Stage> Module<S> {
     // A new module over a stage with whatever levels: every level is driven to 0.
     pub fn new(stage: S, model: Model) -> Module<S>
-        ensures { state_of levels result ≡ new_state model (length (levels stage)) }
+        ensures { state_of S.levels result ≡ new_state model (length (S.levels stage)) }
     {
         let mut stage = stage;
         let _ = drive_to_zero(&mut stage);
@@ -39,15 +39,15 @@ impl<S: Stage> Module<S> {
     }
 
     pub fn read(&self, offset: u16) -> Result<u16, ModuleFault>
-        ensures { result ≡ word_answer (state_of levels self.now) offset }
+        ensures { result ≡ word_answer (state_of S.levels self.now) offset }
     {
         self.table.read(offset, self.stage.count())
     }
 
     // A half is held; a completed write is one order, carried out whole or refused.
     pub fn write(&mut self, offset: u16, word: u16) -> Result<(), ModuleFault>
-        ensures state { state_of levels self.new ≡ write_state (state_of levels self.old) offset word }
-        ensures answer { result ≡ write_answer (state_of levels self.old) offset word }
+        ensures state { state_of S.levels self.new ≡ write_state (state_of S.levels self.old) offset word }
+        ensures answer { result ≡ write_answer (state_of S.levels self.old) offset word }
     {
         match self.table.write(offset, word, self.stage.count())? {
             Drive::Nothing => Ok(()),
@@ -70,10 +70,10 @@ impl<S: Stage> Module<S> {
         conditions: &Conditions,
         readings: &[Reading],
     ) -> Result<(), ModuleFault>
-        ensures state { state_of levels self.new ≡ round_state S.Stage.regulating (state_of levels self.old) conditions.now readings.now }
-        ensures answer { result ≡ round_answer (state_of levels self.old) readings.now }
-        ensures laws { result ≡ Ok tt → RoundLaws S.Stage.regulating (state_of levels self.old) conditions.now readings.now (state_of levels self.new) }
-        ensures stays { EventsStay (state_of levels self.old) (state_of levels self.new) }
+        ensures state { state_of S.levels self.new ≡ round_state S.regulating (state_of S.levels self.old) conditions.now readings.now }
+        ensures answer { result ≡ round_answer (state_of S.levels self.old) readings.now }
+        ensures laws { result ≡ Ok tt → RoundLaws S.regulating (state_of S.levels self.old) conditions.now readings.now (state_of S.levels self.new) }
+        ensures stays { EventsStay (state_of S.levels self.old) (state_of S.levels self.new) }
     {
         let count = self.stage.count();
         if readings.len() != count {
@@ -92,9 +92,9 @@ impl<S: Stage> Module<S> {
 
     // One channel's part of the round; its level is driven to where the round moves it.
     fn step(&mut self, channel: usize, reading: &Reading, pass: &Pass) -> Result<(), ModuleFault>
-        requires channel_in_bounds { channel < length (levels self.old.stage) }
+        requires channel_in_bounds { channel < length (S.levels self.old.stage) }
         requires limit_steps_bound { pass.now.limit_steps ≤ 100000 }
-        ensures state { state_of levels self.new ≡ stepped pass.now (state_of levels self.old) channel reading.now }
+        ensures state { state_of S.levels self.new ≡ stepped pass.now (state_of S.levels self.old) channel reading.now }
         ensures answer { result ≡ Ok tt }
     {
         let level = self.stage.level(channel)?;
@@ -106,7 +106,7 @@ impl<S: Stage> Module<S> {
 
 fn drive_to_zero<S: Stage>(stage: &mut S) -> Result<(), StageFault>
     ensures answer { result ≡ Ok tt }
-    ensures state { levels stage.new ≡ zeros (levels stage.old) }
+    ensures state { S.levels stage.new ≡ zeros (S.levels stage.old) }
 {
     for channel in 0..stage.count() {
         stage.drive(channel, 0)?;

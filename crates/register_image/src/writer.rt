@@ -11,7 +11,7 @@ use stage::Stage;
 
 // The word at an offset of the image: 0 where a read refuses, as it does at an empty place.
 fn image_word<S: Stage>(module: &Module<S>, offset: u16) -> u16
-    ensures { result ≡ image_word (state_of levels «module».now) offset }
+    ensures { result ≡ image_word (state_of S.levels «module».now) offset }
 {
     module.read(offset).unwrap_or(0)
 }
@@ -28,8 +28,8 @@ fn put_word(out: &mut [u8], at: usize, word: u16)
 // A buffer of another length is left as it is.
 pub fn write_image<S: Stage>(module: &Module<S>, out: &mut [u8]) -> Result<(), ModuleFault>
     ensures answer { result ≡ sized (length out.old) (Ok tt) }
-    ensures image { out.new ≡ written (state_of levels «module».now) out.old }
-    ensures back { length out.old ≡ 1024 → Tells (state_of levels «module».now) out.new }
+    ensures image { out.new ≡ written (state_of S.levels «module».now) out.old }
+    ensures back { length out.old ≡ 1024 → Tells (state_of S.levels «module».now) out.new }
 {
     check_length(out.len())?;
     for place in 0..512u16 {

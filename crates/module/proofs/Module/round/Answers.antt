@@ -8,10 +8,10 @@ use Rattle.module.proofs.RoundLaws.{round_laws, round_stays, refused_stays, refu
 use Rattle.module.proofs.Module.round.Goals as goal
 
 pub step-requires : goal.step-requires
-step-requires g c = (
-  omega (arith, c.loop-channel.invariant.1, c.loop-channel-test.true),
-  limit_low c.regulating.result c.args.self.now.table c.begin_round.new.self c.args.conditions.now c.fix_round-pass.result c.fix_round-pass.ensures c.begin_round.ensures,
-)
+step-requires g c = record {
+  channel_in_bounds = omega (arith, c.loop-channel.invariant.1, c.loop-channel-test.true);
+  limit_steps_bound = limit_low c.regulating.result c.args.self.now.table c.begin_round.new.self c.args.conditions.now c.fix_round-pass.result c.fix_round-pass.ensures c.begin_round.ensures;
+}
 
 pub loop-channel-preserved : goal.loop-channel-preserved
 loop-channel-preserved g c =

@@ -8,4 +8,4 @@ use Rattle.module.proofs.Module.step.Goals as goal
 pub returns-in_err-drive : goal.returns-in_err-drive
 returns-in_err-drive g c =
     let low = level_within c.args.pass.now (channel_of c.args.self.now.table c.args.channel) c.args.reading.now c.in_ok-level.level in
-    absurd (never_refuses (g.S.Stage.levels c.args.self.now.stage) c.args.channel c.pass-moved.result c.drive.result c.in_err-drive.field-0.0 c.drive.ensures.answer c.requires.0 (omega (arith, low, c.pass-moved.ensures.level)) c.in_err-drive.was)
+    absurd (never_refuses (g.S.Stage.levels c.args.self.now.stage) c.args.channel c.pass-moved.result c.drive.result c.in_err-drive.field-0.0 c.drive.ensures.answer c.requires.channel_in_bounds (omega (arith, low, c.pass-moved.ensures.level)) c.in_err-drive.was)

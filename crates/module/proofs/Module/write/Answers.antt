@@ -4,18 +4,18 @@ use Rattle.module.proofs.Writing.{never_refuses, below, zero_state, zero_answer}
 use Rattle.module.proofs.Module.write.Goals as goal
 
 -- the stage does not refuse a channel below its count
-pub returns-in_err-drive : goal.returns-in_err-drive
-returns-in_err-drive g c =
+pub returns-in_err-drive-in-ToZero : goal.returns-in_err-drive-in-ToZero
+returns-in_err-drive-in-ToZero g c =
     let s = state_of g.S.Stage.levels c.args.self.now in
     let said = c.in_ok-write.ensures in
     let low = below s c.args.offset c.args.word c.in-ToZero.channel c.count.result c.in_ok-write.field-0 c.count.ensures c.in-ToZero.is said.placed in
-    absurd (never_refuses s.levels c.in-ToZero.channel 0 c.drive.result c.in_err-drive.field-0.0 c.drive.ensures.answer low (omega arith) c.in_err-drive.was)
+    absurd (never_refuses s.levels c.in-ToZero.channel 0 c.drive.result c.in_err-drive-in-ToZero.field-0.0 c.drive.ensures.answer low (omega arith) c.in_err-drive-in-ToZero.was)
 
-pub returns-in_ok-drive : goal.returns-in_ok-drive
-returns-in_ok-drive g c =
+pub returns-in_ok-drive-in-ToZero : goal.returns-in_ok-drive-in-ToZero
+returns-in_ok-drive-in-ToZero g c =
     let s = state_of g.S.Stage.levels c.args.self.now in
     let said = c.in_ok-write.ensures in
-    let driven = c.in_ok-drive.ensures.state in
+    let driven = c.in_ok-drive-in-ToZero.ensures.state in
     record {
       state = zero_state s c.args.offset c.args.word c.in-ToZero.channel c.count.result c.in_ok-write.field-0 c.count.ensures c.in-ToZero.is said.placed _ _ said.state said.answer driven;
       answer = zero_answer s c.args.offset c.args.word c.in-ToZero.channel c.count.result c.in_ok-write.field-0 c.count.ensures c.in-ToZero.is said.placed _ _ said.state said.answer driven;
