@@ -32,7 +32,7 @@ returns g c =
     let b = g.S.Stage.regulating in
     let s0 : State = new_state c.args.model (length (lv c.args.stage)) in
     let none : into_iter_items c.loop-call.rest ≡ [] =
-    nil_from_length (into_iter_items c.loop-call.rest) (sym c.loop-call.rest.rest.ok.0 ∙ c.in-default.ensures.cases.0) in
+    nil_from_length (into_iter_items c.loop-call.rest) (sym c.loop-call.rest.rest.ok.0 ∙ c.in_default.ensures.cases.0) in
     let all : map asked (into_iter_items c.into_iter-rest.result) ≡ map asked (vec_items c.args.calls) = ap (map asked) c.into_iter-rest.ensures.rest in
     let answered : map told (vec_items c.loop-call.replies) ≡ run_told b s0 (map asked (vec_items c.args.calls)) =
     sym (append-nil (map told (vec_items c.loop-call.replies))) ∙ (rw none at c.loop-call.invariant.2)
