@@ -143,15 +143,15 @@ impl Table {
             Order::ChannelEventMask { channel, word } => self.channels[channel].apply(
                 Change::EventMask { word },
             ),
-            Order::VoltageSet { channel, volts } => self.channels[channel].apply(Change::Voltage {
-                volts,
-            }),
-            Order::CurrentSet { channel, amperes } => self.channels[channel].apply(Change::Current {
-                amperes,
-            }),
-            Order::VoltageBounds { channel, volts } => self.channels[channel].apply(
-                Change::VoltageBounds { volts },
-            ),
+            Order::VoltageSet { channel, volts } => {
+                self.channels[channel].apply(Change::Voltage { volts })
+            }
+            Order::CurrentSet { channel, amperes } => {
+                self.channels[channel].apply(Change::Current { amperes })
+            }
+            Order::VoltageBounds { channel, volts } => {
+                self.channels[channel].apply(Change::VoltageBounds { volts })
+            }
             Order::CurrentBounds { channel, amperes } => {
                 self.channels[channel].apply(Change::CurrentBounds { amperes })
             }
