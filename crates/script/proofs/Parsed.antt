@@ -1,13 +1,14 @@
 -- Lemmas on lines and on what a text says.
-use Rattle.std.proofs.Common.{◌≡◌, ℕ, ◌+◌, ◌≤◌, Bool, true, false, cond, eqb, List, [], ◌∷◌, ◌++◌, length, Ok, Err, Result, sym, refl, ap, ◌∙◌, subst, inl, inr, arith, MatchResult}
+use Rattle.std.proofs.Common.{◌≡◌, ℕ, ◌+◌, ◌<◌, ◌≤◌, Bool, true, false, cond, eqb, List, [], ◌∷◌, ◌++◌, length, Ok, Err, Result, sym, refl, ap, ◌∙◌, subst, inl, inr, arith, MatchResult, IfErr}
+use Rattle.std.specs.Borrow.{Bor}
 use Rattle.std.proofs.lemmas.List.{length-append}
 use Rattle.std.proofs.lemmas.Bool.{eqb-true, ne_eqb, cases_Bool, cond-true, cond-false}
 use Rattle.script.specs.declared.fault.ScriptFault.{ScriptFault}
 use Rattle.script.specs.declared.fault.Wrong.{Wrong}
 use Rattle.script.specs.declared.reader.Reader.{Reader}
 use Rattle.script.specs.declared.reader.Script.{Script}
-use Rattle.script.specs.Faults.{at_line}
-use Rattle.script.specs.Lines.{unreturned, as_lines, lines_of, LineRead, whole_at, Parses}
+use Rattle.script.specs.Faults.{bad_line, at_line}
+use Rattle.script.specs.Lines.{unreturned, as_lines, lines_of, LineRead, whole_at, LineBy, Parses}
 use Rattle.script.specs.Progress.{Progress, progress_of, Whole, whole_by, ended}
 use Rattle.script.specs.Words.{longer, cut, is_none}
 use Rattle.script.proofs.Cutting.{Lacks, cut_whole, cut_more}
@@ -72,3 +73,22 @@ no_bytes (b ∷ bs) = sym (ne_eqb (length (b ∷ bs)) 0 (λ e. omega arith))
 
 pub shorter : (rest a after : List ℕ) → rest ≡ a ++ 10 ∷ after → length after + 1 ≤ length rest
 shorter rest a after e = omega (arith, ap length e, length-append a (10 ∷ after))
+
+-- a fault of the line n names it
+fault_line : {T : Type 0} (n : ℕ) (x : Result T Wrong) (f : ScriptFault) (r : Result T ScriptFault) → r ≡ Err f → r ≡ at_line n x → f.line ≡ n
+fault_line n (Ok y) f r is e = cc
+fault_line n (Err w) f r is e = let same : f ≡ bad_line n w = cc in ap (λ (g : ScriptFault). g.line) same
+
+named_by : (p : Progress) (n : ℕ) (ws : List (Bor (List ℕ))) (f : ScriptFault) → LineBy p n ws (Err f) → f.line ≡ n
+named_by p n [] f h = absurd h
+named_by p n (w ∷ ws) f h = fault_line n h.0 f (Err f) refl h.2
+
+by_line : (n : ℕ) (p : Progress) (l : List ℕ) (ls : List (List ℕ)) (r : Result Script ScriptFault) → ((q : Progress) → Parses (n + 1) q ls r → IfErr r (λ f. 0 < f.line)) → 1 ≤ n → (x : Result Reader ScriptFault) → LineRead p n l x → MatchResult x (λ q. Parses (n + 1) (progress_of q) ls r) (λ f. r ≡ Err f) → IfErr r (λ f. 0 < f.line)
+by_line n p l ls r ih low (Ok q) read k = ih (progress_of q) k
+by_line n p l ls r ih low (Err f) read e = subst (λ (s : Result Script ScriptFault). IfErr s (λ g. 0 < g.line)) (sym e) (omega (arith, named_by p n read.0 f read.2))
+
+-- lines are counted from 1
+pub parses_numbered : (n : ℕ) (p : Progress) (ls : List (List ℕ)) (r : Result Script ScriptFault) → 1 ≤ n → Parses n p ls r → IfErr r (λ f. 0 < f.line)
+parses_numbered n p [] (Ok x) low h = tt
+parses_numbered n p [] (Err f) low h = omega (arith, fault_line n (ended p) f (Err f) refl h)
+parses_numbered n p (l ∷ ls) r low h = by_line n p l ls r (λ q k. parses_numbered (n + 1) q ls r (omega arith) k) low h.0 h.1 h.2

@@ -7,6 +7,6 @@ returns-in-None c =
     let other = c.in-None.ensures.cases in
     record {
       bits = λ ds e. absurd (other ds e);
-      known = λ _. c.ok.ensures.variant ∙ c.parse.ensures.value.0;
-      whole = λ _ e low. c.ok.ensures.value ∙ read_whole c.parse.result c.args.text.now c.parse.ensures.value e low;
+      known = λ _. c.ok.ensures.variant ∙ c.parse.ensures.value.0.0;
+      whole = λ _ e low. c.ok.ensures.value ∙ read_whole c.parse.result c.args.text.now c.parse.ensures.value.0 e low;
     }

@@ -1,9 +1,10 @@
-use Rattle.std.proofs.Common.{◌≡◌, ℕ, ◌+◌, Some, None, Ok, Err, sym, ap, ◌∙◌, arith, rules}
+use Rattle.std.proofs.Common.{◌≡◌, ℕ, ◌+◌, [], Some, None, Ok, Err, sym, ap, ◌∙◌, arith, rules}
 use Rattle.std.proofs.lemmas.Str.Pattern.{split_parts}
 use Rattle.script.specs.declared.reader.Reader.{Reader}
 use Rattle.script.specs.Faults.{at_line}
-use Rattle.script.specs.Progress.{progress_of, ended}
-use Rattle.script.proofs.Parsed.{ends, line_parsed, last_parsed, none_parsed, no_bytes, shorter}
+use Rattle.script.specs.Lines.{lines_of, Parses}
+use Rattle.script.specs.Progress.{progress_of, progress, nothing, ended}
+use Rattle.script.proofs.Parsed.{ends, line_parsed, last_parsed, none_parsed, no_bytes, shorter, parses_numbered}
 use Rattle.script.proofs.parsing.parse.Goals as goal
 use Rattle.script.proofs.parsing.parse.Goals.{then-not-is_empty+in_ok-reader-2, else-not-is_empty}
 
@@ -24,23 +25,25 @@ returns-in_err-reader c =
     let fault = c.in_err-reader.field-0.0 in
     let parts = split_parts 10 rest (Some (c.in-Some.text, c.in-Some.after)) c.in-Some.ensures.cases (omega arith) in
     let e : c.from_residual.result ≡ Err fault = search rules in
-    c.loop-text.invariant.2 c.from_residual.result (line_parsed rest c.in-Some.text.now c.in-Some.after.now parts c.loop-text.line (progress_of c.loop-text.reader) c.unreturned.result.now c.unreturned.ensures (Err fault) c.in_err-reader.ensures c.from_residual.result e)
+    let parsed = c.loop-text.invariant.2 c.from_residual.result (line_parsed rest c.in-Some.text.now c.in-Some.after.now parts c.loop-text.line (progress_of c.loop-text.reader) c.unreturned.result.now c.unreturned.ensures (Err fault) c.in_err-reader.ensures c.from_residual.result e) in
+    record { lined = parses_numbered 1 _ _ c.from_residual.result (omega arith) parsed; parsed = parsed }
 
 pub returns-in_err-reader-2 : goal.returns-in_err-reader-2
 returns-in_err-reader-2 c =
     let rest = c.loop-text.rest.now in
     let r = c.from_residual-in_err-reader-2.result in
     let fault = c.in_err-reader-2.field-0.0 in
-    let none = split_parts 10 rest None c.in-default.ensures.cases (omega arith) in
+    let none = split_parts 10 rest None c.in_default.ensures.cases (omega arith) in
     let e : r ≡ Err fault = search rules in
-    c.loop-text.invariant.2 r (last_parsed rest none c.loop-text.line (progress_of c.loop-text.reader) r (c.if-not-is_empty.ensures ∙ sym (no_bytes rest)) (Err fault) c.in_err-reader-2.ensures e)
+    let parsed = c.loop-text.invariant.2 r (last_parsed rest none c.loop-text.line (progress_of c.loop-text.reader) r (c.if-not-is_empty.ensures ∙ sym (no_bytes rest)) (Err fault) c.in_err-reader-2.ensures e) in
+    record { lined = parses_numbered 1 _ _ r (omega arith) parsed; parsed = parsed }
 
 pub returns : goal.returns
 returns c =
     let rest = c.loop-text.rest.now in
     let r = c.at_line.result in
-    let none = split_parts 10 rest None c.in-default.ensures.cases (omega arith) in
-    elim c.if-not-is_empty.branch [
+    let none = split_parts 10 rest None c.in_default.ensures.cases (omega arith) in
+    let parsed : Parses 1 (progress None [] nothing) (lines_of c.args.text.now) r = elim c.if-not-is_empty.branch [
       | then-not-is_empty+in_ok-reader-2 w ↦
           let last = w.in_ok-reader-2.reader in
           c.loop-text.invariant.2 r
@@ -54,4 +57,5 @@ returns c =
           (ends c.loop-text.line (progress_of c.loop-text.reader) c.finish.result r
           (c.at_line.ensures ∙ ap (λ (n : ℕ). at_line n c.finish.result) w.line-is)
           (c.finish.ensures ∙ ap (λ (q : Reader). ended (progress_of q)) w.reader-is)))
-    ]
+    ] in
+    record { lined = parses_numbered 1 _ _ r (omega arith) parsed; parsed = parsed }

@@ -19,5 +19,5 @@ pub returns : goal.returns
 returns c =
     let rest = c.loop-word.rest.now in
     let had = spelt (take c.loop-word.self.count c.loop-word.self.list) in
-    let none = split_parts 9 rest None c.in-default.ensures.cases (omega arith) in
+    let none = split_parts 9 rest None c.in_default.ensures.cases (omega arith) in
     c.add-2.ensures ∙ ap (added_all had) (sym (cut_whole 9 rest none)) ∙ c.loop-word.invariant.1

@@ -19,5 +19,5 @@ pub returns : goal.returns
 returns c =
     let rest = c.loop-piece.rest.now in
     let had = spelt (take c.loop-piece.self.count c.loop-piece.self.list) in
-    let none = split_parts 32 rest None c.in-default.ensures.cases (omega arith) in
+    let none = split_parts 32 rest None c.in_default.ensures.cases (omega arith) in
     c.add_between_tabs-2.ensures ∙ ap (cut_all had) (sym (cut_whole 32 rest none)) ∙ c.loop-piece.invariant.1
