@@ -4,6 +4,7 @@
 use script::{ScriptFault, parse, perform, text_of};
 use std::alloc::AllocError;
 use std::io::{BufWriter, Read, Write};
+use std::process::ExitCode;
 use std::{env, fmt, fs, io};
 
 #[derive(Drop)]
@@ -67,7 +68,7 @@ fn bench(rt: &HostRuntime) -> Result<(), Failure> {
     let bytes = read_script(rt)?;
     let script = parse(rt.alloc(), text_of(bytes.as_slice())?)?;
     let listing = perform(rt.alloc(), script)?;
-    let mut out = BufWriter::new(rt.alloc(), rt.stdout()).map_err(|_| std::alloc::AllocError)?;
+    let mut out = BufWriter::new(rt.alloc(), rt.stdout()).map_err(Failure::Output)?;
     let written = write!(out, "{listing}");
     match (written, out.flush()) {
         (Ok(()), Ok(())) => Ok(()),
@@ -75,10 +76,12 @@ fn bench(rt: &HostRuntime) -> Result<(), Failure> {
     }
 }
 
-fn main(rt: HostRuntime) -> Result<(), Failure> {
-    let done = bench(&rt);
-    if let Err(failure) = &done {
-        let _ = eprintln!(rt; "{failure}");
+fn main(rt: HostRuntime) -> ExitCode {
+    match bench(&rt) {
+        Ok(()) => ExitCode::SUCCESS,
+        Err(failure) => {
+            let _ = eprintln!(rt; "{failure}");
+            ExitCode::FAILURE
+        }
     }
-    done
 }

@@ -7,6 +7,7 @@ use registers::ModuleFault;
 use stage::DirectStage;
 use std::io;
 use std::io::{BufWriter, Write};
+use std::process::ExitCode;
 use values::Model;
 
 #[derive(Drop)]
@@ -38,9 +39,16 @@ fn print_words(rt: &HostRuntime, reader: ImageReader<'_>) -> Result<(), Failure>
     Ok(())
 }
 
-fn main(rt: HostRuntime) -> Result<(), Failure> {
+fn print_image(rt: &HostRuntime) -> Result<(), Failure> {
     let module = Module::new(DirectStage::new(4), Model::V2000);
     let mut bytes = [0; IMAGE_BYTES];
     write_image(&module, &mut bytes)?;
-    print_words(&rt, ImageReader::new(&bytes)?)
+    print_words(rt, ImageReader::new(&bytes)?)
+}
+
+fn main(rt: HostRuntime) -> ExitCode {
+    match print_image(&rt) {
+        Ok(()) => ExitCode::SUCCESS,
+        Err(_) => ExitCode::FAILURE,
+    }
 }
