@@ -60,7 +60,8 @@ impl<'a> Words<'a> {
     }
 
     pub(crate) fn of(line: &'a str) -> Words<'a>
-        ensures { spelt (take result.count result.list) ≡ words_of line.now }
+        ensures few { result.count ≤ 8 }
+        ensures words { spelt (take result.count result.list) ≡ words_of line.now }
     {
         let mut words = Words {
             count: 0,
