@@ -2,7 +2,7 @@
 ghost use Rattle.std.specs.Prelude.{◌≡◌, ◌≤◌, true, length, take, replicate};
 ghost use Rattle.stage.specs.Levels.{highest_level, most_channels, AtMost, taken};
 ghost use Rattle.stage.specs.Driving.{at_most_take};
-ghost use Rattle.std.proofs.Common.{rules, arith};
+ghost use Rattle.std.proofs.Common.{rules};
 
 use crate::{MOST_CHANNELS, Stage, StageFault, can_drive, taken_count};
 
@@ -34,9 +34,9 @@ impl Stage for DirectStage {
 
     const REGULATES: bool = true;
 
-    ghost some = { first_of (Prim.search rules, Prim.grind (arith, Self.row.coded.inj)) };
+    ghost some = { Prim.search rules };
 
-    ghost few = { first_of (Prim.search rules, Prim.grind (arith, Self.row.coded.inj)) };
+    ghost few = { Prim.search rules };
 
     ghost bounded = { λ s. at_most_take s.count s.levels s.bounded };
 

@@ -3,7 +3,7 @@ ghost use Rattle.std.specs.Prelude.{◌≡◌, ◌≤◌, true, false, length, r
 ghost use Rattle.stage.specs.Levels.{highest_level, most_channels, AtMost, taken};
 ghost use Rattle.stage.specs.Drops.{highest, minus_each, levels_of, KeepsTop};
 ghost use Rattle.stage.specs.Driving.{levels_at_most};
-ghost use Rattle.std.proofs.Common.{rules, arith};
+ghost use Rattle.std.proofs.Common.{rules};
 
 use crate::{MOST_CHANNELS, Stage, StageFault, can_drive, taken_count};
 
@@ -81,9 +81,9 @@ impl Stage for DistributorStage {
 
     const REGULATES: bool = false;
 
-    ghost some = { first_of (Prim.search rules, Prim.grind (arith, Self.row.coded.inj)) };
+    ghost some = { Prim.search rules };
 
-    ghost few = { first_of (Prim.search rules, Prim.grind (arith, Self.row.coded.inj)) };
+    ghost few = { Prim.search rules };
 
     ghost bounded = { λ s. levels_at_most s.count highest_level s.common s.drops s.bounded };
 
