@@ -1,5 +1,5 @@
 -- Lemmas on the number of words of a line.
-use Rattle.std.proofs.Common.{◌≡◌, ℕ, Bool, true, false, cond, ltb, List, length, Ok, Err, Result, sym, refl, arith, Bor, ltb-false}
+use Rattle.std.proofs.Common.{◌≡◌, ℕ, Bool, true, false, cond, ltb, List, length, Ok, Err, Result, refl, arith, Bor, ltb-false}
 use Rattle.script.specs.declared.fault.Wrong.{Wrong}
 use Rattle.script.specs.declared.fault.Wrong.TheVariants.{MissingWord, SurplusWord}
 use Rattle.script.specs.Commands.{fitting}

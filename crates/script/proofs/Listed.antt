@@ -5,7 +5,6 @@ use Rattle.std.proofs.lemmas.List.{at_drop_more, at_drop_all, take_more}
 use Rattle.runs.specs.declared.call.Call.{Call}
 use Rattle.runs.specs.declared.call.Reply.{Reply}
 use Rattle.runs.specs.Calls.{told, said_by}
-use Rattle.script.specs.declared.listing.Echo.{Echo}
 use Rattle.script.specs.Listing.{echo_of, done_by, done_count}
 
 abbrev done_of : List Reply → ℕ

@@ -1,5 +1,5 @@
 -- Lemmas on texts of digits.
-use Rattle.std.proofs.Common.{◌≡◌, ℕ, ◌+◌, ◌^◌, ◌<◌, ◌≤◌, min, Bool, true, false, cond, not, ◌&&◌, eqb, ltb, leb, List, [], ◌∷◌, length, get_or, drop, pos, Some, None, Ok, Err, Option, Result, sym, refl, ap, ◌∙◌, subst, arith, ltb-true, ne_eqb, leb-false, leb-true}
+use Rattle.std.proofs.Common.{◌≡◌, ℕ, ◌+◌, ◌^◌, ◌<◌, ◌≤◌, min, Bool, true, false, cond, not, ◌&&◌, eqb, ltb, leb, List, [], ◌∷◌, length, get_or, drop, pos, Some, Ok, Err, Result, sym, refl, ap, ◌∙◌, subst, arith, ltb-true, ne_eqb, leb-false, leb-true}
 use native.Mathlib.Nat.{pow-le-pow_right, min-eq_left, min-eq_right}
 use lib.Ieee.{Float, binary32, of_int}
 use borrow.Author.Tests.{clash}
@@ -10,7 +10,7 @@ use Rattle.std.specs.Float.Parse.{ParsesFloat}
 use Rattle.std.specs.Result.{OkIff, result_ok, result_unwrap_or}
 use Rattle.std.specs.Str.Parse.{AllDigits, IsNumeral, ParsesUnsigned, without_leading_plus, digits_value}
 use Rattle.std.specs.Char.{digit_value}
-use Rattle.script.specs.Numbers.{digits_only, numeral, hex_word, decimal_number, bit_pattern, largest}
+use Rattle.script.specs.Numbers.{digits_only, numeral, largest}
 
 -- a loop that has come to place i
 module _ (radix : ℕ) (cs : List ℕ) (i : ℕ) (inv : digits_only radix (drop i cs) ≡ digits_only radix cs) where

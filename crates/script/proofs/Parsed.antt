@@ -9,7 +9,7 @@ use Rattle.script.specs.declared.reader.Reader.{Reader}
 use Rattle.script.specs.declared.reader.Script.{Script}
 use Rattle.script.specs.Faults.{bad_line, at_line}
 use Rattle.script.specs.Lines.{unreturned, as_lines, lines_of, LineRead, whole_at, LineBy, Parses}
-use Rattle.script.specs.Progress.{Progress, progress_of, Whole, whole_by, ended}
+use Rattle.script.specs.Progress.{Progress, progress_of, whole_by, ended}
 use Rattle.script.specs.Words.{longer, cut, is_none}
 use Rattle.script.proofs.Cutting.{Lacks, cut_whole, cut_more}
 

@@ -9,7 +9,6 @@ use Rattle.table.specs.declared.records.Amounts.{Amounts}
 use Rattle.table.specs.declared.records.Conditions.{Conditions}
 use Rattle.table.specs.declared.round.Reading.{Reading}
 use Rattle.module.specs.declared.block.Access.{Access}
-use Rattle.module.specs.declared.block.Kind.{Kind}
 use Rattle.module.specs.declared.block.Kind.TheVariants.{Read, Write}
 use Rattle.script.specs.declared.command.Setup.{Setup}
 use Rattle.script.specs.declared.fault.Wrong.{Wrong}

@@ -57,6 +57,8 @@ pub trait Stage {
         ensures answer { result ≡ drive_answer (levels self.old) channel level }
         ensures state { levels self.new ≡ driven (levels self.old) channel level };
 
+    // Laws that each stage proves, below the last function as laws have to stand: there is a channel, there are no more than a
+    // module takes, and no level is above the highest.
     ghost some: { (s : Self) → 1 ≤ length (levels s) };
 
     ghost few: { (s : Self) → length (levels s) ≤ most_channels };

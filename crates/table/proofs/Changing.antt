@@ -15,13 +15,13 @@ changed_channels i cs x = map (λ (c : Channel). changed c x) (take i cs) ++ dro
 abbrev pub ChangedFirst : ℕ → Table → Change → Table → Type 0
 ChangedFirst i t x u = u ≡ with_channels t (changed_channels i t.channels x)
 
-get_d_again : (cs : List Channel) (i : ℕ) (c : Channel) → get_or cs i c ≡ get_or cs i (get_or cs i c)
-get_d_again [] i c = refl
-get_d_again (a ∷ cs) ℕ.zero c = refl
-get_d_again (a ∷ cs) (ℕ.suc i) c = get_d_again cs i c
+get_or_again : (cs : List Channel) (i : ℕ) (c : Channel) → get_or cs i c ≡ get_or cs i (get_or cs i c)
+get_or_again [] i c = refl
+get_or_again (a ∷ cs) ℕ.zero c = refl
+get_or_again (a ∷ cs) (ℕ.suc i) c = get_or_again cs i c
 
 module _ (i : ℕ) (t : Table) (x : Change) (u : Table) (e : ChangedFirst i t x u) where
   pub changed_more : i < length t.channels → ChangedFirst (i + 1) t x (with_channels u (set u.channels i (changed (get_or u.channels i no_channel) x)))
   changed_more h =
       ap (λ (v : Table). with_channels v (set u.channels i (changed (get_or u.channels i no_channel) x))) e
-      ∙ ap (with_channels t) (map_over_more (λ (c : Channel). changed c x) t.channels u.channels i (get_or u.channels i no_channel) h (ap (λ (v : Table). v.channels) e) (get_d_again u.channels i no_channel))
+      ∙ ap (with_channels t) (map_over_more (λ (c : Channel). changed c x) t.channels u.channels i (get_or u.channels i no_channel) h (ap (λ (v : Table). v.channels) e) (get_or_again u.channels i no_channel))

@@ -1,5 +1,5 @@
 -- The status, the events and what a round leaves of one channel.
-use Rattle.std.proofs.Common.{◌≡◌, ℕ, Bool, true, false, cond, not, ◌&&◌, sym, refl, ap, ◌∙◌, subst, ap₂}
+use Rattle.std.proofs.Common.{◌≡◌, ℕ, Bool, true, false, not, ◌&&◌, sym, refl, ap, subst, ap₂}
 use lib.Bits.{bit_or, or_comm}
 use Rattle.std.proofs.lemmas.Bool.{and_from, and_left, not_from_true, not_from_false, cond-true, cond-false, cond_both}
 use Rattle.values.specs.Ranges.{zero}
@@ -10,7 +10,7 @@ use Rattle.table.specs.declared.round.Pass.{Pass}
 use Rattle.table.specs.declared.round.Reading.{Reading}
 use Rattle.table.specs.Changes.{with_voltage}
 use Rattle.table.specs.New.{neither}
-use Rattle.table.specs.Round.{over, excess_of, trips, shut_off, on_after, setpoint_after, limiting, found_events, found, events_found, judged, ramping_after, start_level, channel_after}
+use Rattle.table.specs.Round.{over, excess_of, trips, shut_off, on_after, limiting, found_events, found, events_found, judged, ramping_after, start_level, channel_after}
 use Rattle.table.specs.RoundLaws.{Has, Signals, Left}
 use Rattle.table.specs.Words.{bit}
 use Rattle.table.proofs.RoundLawsBits.{kept_or}

@@ -1,4 +1,4 @@
-use Rattle.std.proofs.Common.{◌≡◌, Bool, true, cond, ◌&&◌, eqb, length, Some, None, sym, ap, ◌∙◌, arith, eq-eqb}
+use Rattle.std.proofs.Common.{◌≡◌, Bool, true, cond, ◌&&◌, eqb, length, Some, None, sym, ap, ◌∙◌, eq-eqb}
 use Rattle.std.specs.Str.Parse.{digits_value}
 use Rattle.script.specs.Numbers.{numeral}
 use Rattle.script.proofs.Numerals.{bit_pattern_lem}

@@ -1,4 +1,4 @@
-use Rattle.std.proofs.Common.{◌≡◌, Bool, true, cond, ◌&&◌, leb, length, Some, None, sym, ap, ◌∙◌, arith, le-leb}
+use Rattle.std.proofs.Common.{◌≡◌, Bool, true, cond, ◌&&◌, leb, length, Some, None, sym, ap, ◌∙◌, le-leb}
 use Rattle.std.specs.Str.Parse.{digits_value}
 use Rattle.script.specs.Numbers.{numeral}
 use Rattle.script.proofs.Numerals.{hex_word_lem}

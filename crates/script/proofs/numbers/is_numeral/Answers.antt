@@ -1,4 +1,4 @@
-use Rattle.std.proofs.Common.{◌≡◌, ℕ, Bool, false, not, eqb, List, length, sym, ap, ◌∙◌, subst}
+use Rattle.std.proofs.Common.{◌≡◌, ℕ, false, not, eqb, List, length, sym, ap, ◌∙◌, subst}
 use Rattle.script.specs.Numbers.{numeral}
 use Rattle.script.proofs.Numerals.{digit_more, digit_fails, digits_all}
 use Rattle.script.proofs.numbers.is_numeral.Goals as goal

@@ -1,4 +1,4 @@
-use Rattle.std.proofs.Common.{List, [], ◌∷◌, ◌++◌, map, is_ok, Ok, vec_items, sym, ap, ◌∙◌}
+use Rattle.std.proofs.Common.{List, [], ◌∷◌, map, is_ok, Ok, vec_items, sym, ap, ◌∙◌}
 use mathlib.Core.List.{map-append}
 use Rattle.std.proofs.ResultArms.{chosen}
 use Rattle.runs.specs.Calls.{Asked, asked}

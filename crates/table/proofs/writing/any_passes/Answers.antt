@@ -1,4 +1,3 @@
-use Rattle.std.proofs.Common.{Bool, ◌||◌, ap, ◌∙◌, arith}
 use Rattle.table.specs.Changes.{event_passes}
 use Rattle.table.proofs.Any.{any_so_far, any_all}
 use Rattle.table.proofs.writing.any_passes.Goals as goal

@@ -1,4 +1,4 @@
-use Rattle.std.proofs.Common.{ℕ, ◌/◌, min, T, pos, sym, ap, ◌∙◌, subst, arith}
+use Rattle.std.proofs.Common.{ℕ, ◌/◌, min, pos, ap, ◌∙◌, arith}
 use lib.Ieee.{Float, binary64, mul, of_int, to_unsigned}
 use Rattle.values.proofs.Exact.{rounded_down_lem}
 use Rattle.values.proofs.steps.rounded_down.Goals as goal
