@@ -146,7 +146,8 @@ undisturbed p c r x =
     && not (lt zero c.bounds.voltage)
     && not (lt zero c.bounds.current)
 
--- an undisturbed channel whose reading is stored stays as it is: nothing is found but that it regulates voltage if it is on
+-- an undisturbed channel whose reading is stored stays as it is: nothing is found but that it regulates voltage if it is on, and
+-- that sets ECV, as isEMCY sets EEMCY
 abbrev pub settled : Channel → Channel
 settled c = record {
   findings = record {

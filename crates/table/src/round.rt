@@ -166,7 +166,8 @@ impl Channel {
             && !(0.0 < self.bounds.current)
     }
 
-    // What a round makes of an undisturbed channel whose reading is stored: it stays as it is, and regulates voltage if it is on.
+    // What a round makes of an undisturbed channel whose reading is stored: it stays as it is, and regulates voltage if it is on,
+    // which sets ECV; isEMCY sets EEMCY.
     fn settle(&mut self)
         ensures { self.new ≡ Round.settled self.old }
     {
