@@ -4,7 +4,7 @@ use Rattle.std.proofs.lemmas.List.{take_all}
 use Rattle.std.specs.Result.{result_unwrap_or}
 use Rattle.stage.specs.declared.fault.StageFault.{StageFault}
 use Rattle.stage.specs.Levels.{level_answer}
-use Rattle.stage.specs.Driving.{level_answer_can}
+use Rattle.stage.proofs.Driving.{level_answer_can}
 
 -- of twelve steps, the first i are the levels ls, and the others 0
 abbrev pub Listed : ℕ → List ℕ → List ℕ → Type 0

@@ -2,7 +2,7 @@
 use Rattle.std.proofs.Common.{◌≡◌, ℕ, ◌<◌, ◌≤◌, List, length, Ok, Err, Result, sym, ap, ◌∙◌, subst, arith}
 use Rattle.stage.specs.declared.fault.StageFault.{StageFault}
 use Rattle.stage.specs.Levels.{driven, drive_answer}
-use Rattle.stage.specs.Driving.{driven_can, drive_answer_can}
+use Rattle.stage.proofs.Driving.{driven_can, drive_answer_can}
 use Rattle.table.specs.declared.carrying.Drive.{Drive}
 use Rattle.table.specs.declared.carrying.Drive.TheVariants.{ToZero}
 use Rattle.table.specs.declared.records.Table.{Table}

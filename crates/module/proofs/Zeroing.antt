@@ -3,7 +3,7 @@ use Rattle.std.proofs.Common.{◌≡◌, ℕ, ◌+◌, ◌<◌, ◌≤◌, List,
 use Rattle.std.proofs.lemmas.List.{length-append, length-replicate, length-drop, drop_all, append-nil}
 use Rattle.std.proofs.lemmas.List.Edits.{fill_more}
 use Rattle.stage.specs.Levels.{driven}
-use Rattle.stage.specs.Driving.{driven_can}
+use Rattle.stage.proofs.Driving.{driven_can}
 
 -- of the levels xs, the first i are at 0, and the others as they were
 abbrev pub Zeroed : ℕ → List ℕ → List ℕ → Type 0

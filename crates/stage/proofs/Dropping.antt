@@ -4,7 +4,8 @@ use Rattle.std.proofs.lemmas.List.{length-map, length-take-le, length-set, get_o
 use Rattle.stage.specs.declared.distributor.DistributorStage.{DistributorStage}
 use Rattle.stage.specs.Levels.{highest_level, most_channels, AtMost, drivable}
 use Rattle.stage.specs.Drops.{highest, minus_each, levels_of, KeepsTop}
-use Rattle.stage.specs.Driving.{DrivenTo, take_of_set, at_most_take, at_most_set, minus_each_at_most, levels_at_most, level_at_most, first_driven}
+use Rattle.stage.specs.Bounds.{at_most_take, minus_each_at_most, levels_at_most}
+use Rattle.stage.proofs.Driving.{DrivenTo, take_of_set, at_most_set, level_at_most, first_driven}
 
 pub at_most_highest : (xs : List ℕ) → AtMost (highest xs) xs
 at_most_highest [] k = zero-le

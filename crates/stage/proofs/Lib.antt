@@ -1,2 +1,3 @@
+pub mod Driving
 pub mod Dropping
 pub mod Lawful

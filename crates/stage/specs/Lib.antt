@@ -1,4 +1,4 @@
 pub mod Levels
 pub mod Drops
 pub mod Laws
-pub mod Driving
+pub mod Bounds

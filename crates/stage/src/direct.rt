@@ -1,7 +1,7 @@
 // A stage that keeps a level for each channel.
 ghost use Rattle.std.specs.Prelude.{◌≡◌, ◌≤◌, true, length, take, replicate};
 ghost use Rattle.stage.specs.Levels.{highest_level, most_channels, AtMost, taken};
-ghost use Rattle.stage.specs.Driving.{at_most_take};
+ghost use Rattle.stage.specs.Bounds.{at_most_take};
 ghost use Rattle.std.proofs.Common.{rules};
 
 use crate::{MOST_CHANNELS, Stage, StageFault, can_drive, taken_count};

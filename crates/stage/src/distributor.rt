@@ -2,7 +2,7 @@
 ghost use Rattle.std.specs.Prelude.{◌≡◌, ◌≤◌, true, false, length, replicate};
 ghost use Rattle.stage.specs.Levels.{highest_level, most_channels, AtMost, taken};
 ghost use Rattle.stage.specs.Drops.{highest, minus_each, levels_of, KeepsTop};
-ghost use Rattle.stage.specs.Driving.{levels_at_most};
+ghost use Rattle.stage.specs.Bounds.{levels_at_most};
 ghost use Rattle.std.proofs.Common.{rules};
 
 use crate::{MOST_CHANNELS, Stage, StageFault, can_drive, taken_count};

@@ -1,5 +1,5 @@
 use Rattle.std.proofs.Common.{arith}
-use Rattle.stage.specs.Driving.{taken_zeros}
+use Rattle.stage.proofs.Driving.{taken_zeros}
 use Rattle.stage.proofs.taken_count.Goals as goal
 
 pub returns : goal.returns

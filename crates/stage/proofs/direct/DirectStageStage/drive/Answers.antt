@@ -1,5 +1,5 @@
 use Rattle.std.proofs.Common.{arith, length-set}
-use Rattle.stage.specs.Driving.{at_most_set, level_at_most, first_driven}
+use Rattle.stage.proofs.Driving.{at_most_set, level_at_most, first_driven}
 use Rattle.stage.proofs.direct.DirectStageStage.drive.Goals as goal
 
 pub invariant_of-self : goal.invariant_of-self

@@ -1,5 +1,5 @@
 use Rattle.std.proofs.Common.{arith}
-use Rattle.stage.specs.Driving.{first_level}
+use Rattle.stage.proofs.Driving.{first_level}
 use Rattle.stage.proofs.direct.DirectStageStage.level.Goals as goal
 
 pub returns-then-channel-self : goal.returns-then-channel-self

@@ -1,5 +1,5 @@
 use Rattle.std.proofs.Common.{ℕ, List, replicate, arith}
-use Rattle.stage.specs.Driving.{minus_each_at_most}
+use Rattle.stage.specs.Bounds.{minus_each_at_most}
 use Rattle.stage.proofs.Dropping.{length_levels, highest_zeros}
 use Rattle.stage.proofs.distributor.DistributorStage.new.Goals as goal
 

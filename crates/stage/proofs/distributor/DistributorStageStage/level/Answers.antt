@@ -1,7 +1,7 @@
 use Rattle.std.proofs.Common.{Ok, sym, ap, ◌∙◌, arith}
 use Rattle.std.proofs.lemmas.List.{length-map, get_or-map}
 use Rattle.stage.specs.Drops.{minus_each}
-use Rattle.stage.specs.Driving.{first_level}
+use Rattle.stage.proofs.Driving.{first_level}
 use Rattle.stage.proofs.distributor.DistributorStageStage.level.Goals as goal
 
 pub returns-then-channel-self : goal.returns-then-channel-self

@@ -1,10 +1,9 @@
 -- Lemmas on the definitions of specs/Levels.
 use Rattle.std.specs.Prelude.{◌≡◌, ℕ, zero, suc, ◌<◌, ◌≤◌, true, false, List, [], ◌∷◌, length, take, replicate, Ok, Err, slice_index, slice_set, refl}
-use Rattle.std.proofs.Common.{sym, ap, ◌∙◌, inl, inr, zero-le, length-set, arith}
+use Rattle.std.proofs.Common.{sym, ap, ◌∙◌, inl, inr, length-set, arith}
 use Rattle.std.proofs.lemmas.List.{length-take-le, get_or-take, take-replicate}
 use Rattle.std.proofs.lemmas.Bool.{lt-ltb, le-ltb, le-leb, lt-leb, and_parts, and_from, and_left, and_right, leb-true, ltb-true, cond-true, cond-false, cond_both}
 use Rattle.stage.specs.Levels.{highest_level, most_channels, AtMost, stage_fault, drivable, taken, level_answer, drive_answer, driven}
-use Rattle.stage.specs.Drops.{minus_each, levels_of}
 use Rattle.stage.specs.Laws.{Outside}
 
 -- channel k of the levels ls was driven to the level x, and they became ms
@@ -24,20 +23,6 @@ at_most_set (y ∷ ys) zero x l h zero = l
 at_most_set (y ∷ ys) zero x l h (suc k) = h (suc k)
 at_most_set (y ∷ ys) (suc i) x l h zero = h zero
 at_most_set (y ∷ ys) (suc i) x l h (suc k) = at_most_set ys i x l (λ j. h (suc j)) k
-
-pub at_most_take : {b : ℕ} (n : ℕ) (xs : List ℕ) → AtMost b xs → AtMost b (take n xs)
-at_most_take zero xs h k = zero-le
-at_most_take (suc n) [] h k = h k
-at_most_take (suc n) (y ∷ ys) h zero = h zero
-at_most_take (suc n) (y ∷ ys) h (suc k) = at_most_take n ys (λ j. h (suc j)) k
-
-pub minus_each_at_most : (c : ℕ) (xs : List ℕ) → AtMost c (minus_each c xs)
-minus_each_at_most c [] k = zero-le
-minus_each_at_most c (x ∷ xs) zero = omega arith
-minus_each_at_most c (x ∷ xs) (suc k) = minus_each_at_most c xs k
-
-pub levels_at_most : (n b c : ℕ) (ds : List ℕ) → c ≤ b → AtMost b (levels_of n c ds)
-levels_at_most n b c ds l = at_most_take n (minus_each c ds) (λ k. omega (arith, minus_each_at_most c ds k))
 
 pub taken_zeros : (n count : ℕ) → n ≡ taken count → take {A = ℕ} n (replicate most_channels 0) ≡ replicate (taken count) 0
 taken_zeros n count e = take-replicate {X = ℕ} n most_channels 0 (omega arith) ∙ ap (λ m. replicate m 0) e
