@@ -5,7 +5,7 @@ use Rattle.std.specs.Str.{bytes_eq}
 use Rattle.values.specs.declared.model.Model.{Model}
 use Rattle.values.specs.Model.{with_volts}
 use Rattle.stage.specs.Levels.{taken}
-use Rattle.table.specs.declared.records.Amounts.{Amounts}
+use Rattle.table.specs.Both.{Amounts}
 use Rattle.table.specs.declared.records.Conditions.{Conditions}
 use Rattle.table.specs.declared.round.Reading.{Reading}
 use Rattle.module.specs.declared.block.Access.{Access}

@@ -1,6 +1,6 @@
 -- What an order does to one channel.
 use Rattle.std.specs.Prelude.{ℕ, ◌-◌, Bool, true, false, not, ◌&&◌, ◌||◌, bit_and, bit_or, Float}
-use Rattle.table.specs.declared.records.Amounts.{Amounts}
+use Rattle.table.specs.Both.{Amounts}
 use Rattle.table.specs.declared.records.Channel.{Channel}
 use Rattle.table.specs.declared.change.Change.{Change}
 use Rattle.table.specs.declared.change.Change.TheVariants as change

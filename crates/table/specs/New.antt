@@ -3,8 +3,7 @@ use Rattle.std.specs.Prelude.{true, false, replicate, from_bits, Float}
 use Rattle.std.specs.Float.{binary32}
 use Rattle.values.specs.declared.model.Model.{Model}
 use Rattle.values.specs.Model.{nominal_current}
-use Rattle.table.specs.declared.records.Amounts.{Amounts}
-use Rattle.table.specs.declared.records.Flags.{Flags}
+use Rattle.table.specs.Both.{Amounts, Flags}
 use Rattle.table.specs.declared.records.Findings.{Findings}
 use Rattle.table.specs.declared.records.Channel.{Channel}
 use Rattle.table.specs.declared.records.Held.TheVariants.{Nothing}

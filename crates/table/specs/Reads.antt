@@ -16,8 +16,7 @@ use Rattle.registers.specs.declared.place.ValueRegister.TheVariants as vr
 use Rattle.registers.specs.declared.place.Place.{Place}
 use Rattle.registers.specs.declared.place.Place.TheVariants as place
 use Rattle.registers.specs.Map.{located}
-use Rattle.table.specs.declared.records.Amounts.{Amounts}
-use Rattle.table.specs.declared.records.Flags.{Flags}
+use Rattle.table.specs.Both.{Amounts, Flags}
 use Rattle.table.specs.declared.records.Channel.{Channel}
 use Rattle.table.specs.declared.records.Conditions.{Conditions}
 use Rattle.table.specs.declared.records.Groups.{Groups}

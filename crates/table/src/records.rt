@@ -4,18 +4,17 @@ ghost use Rattle.table.specs.New.{new_channel, new_table};
 
 use values::Model;
 
-// A voltage in volts and a current in amperes; as maxima, both in per cent of the nominal value.
+// One for the voltage and one for the current.
 #[derive(Clone, Copy)]
-pub struct Amounts {
-    pub voltage: f32,
-    pub current: f32,
+pub struct Both<T> {
+    pub voltage: T,
+    pub current: T,
 }
 
-#[derive(Clone, Copy)]
-pub struct Flags {
-    pub voltage: bool,
-    pub current: bool,
-}
+// In volts and in amperes; as maxima, both in per cent of the nominal value.
+pub type Amounts = Both<f32>;
+
+pub type Flags = Both<bool>;
 
 // What the latest round found of a channel.
 #[derive(Clone, Copy)]
