@@ -11,4 +11,4 @@ pub use ranges::{
     voltage_admitted,
 };
 pub use steps::{limit_steps, ramp_step, set_steps};
-pub use words::{join, lower_word, upper_word, words_return};
+pub use words::{Words, words_return};
