@@ -66,7 +66,7 @@ pub enum Figure {
     },
 }
 
-#[derive(Clone, Copy)]
+#[derive(Clone, Copy, PartialEq, Eq, Debug)]
 pub enum Outcome {
     // The 32 bits of a value; 7FC00000 where it is not a number.
     Pattern(u32),
@@ -119,8 +119,8 @@ impl fmt::Display for Outcome {
             Outcome::Pattern(bits) => write!(f, "{bits:08X}"),
             Outcome::Word(word) => write!(f, "{word:04X}"),
             Outcome::Count(count) => write!(f, "{count}"),
-            Outcome::Truth(true) => write!(f, "yes"),
-            Outcome::Truth(false) => write!(f, "no"),
+            Outcome::Truth(true) => f.write_str("yes"),
+            Outcome::Truth(false) => f.write_str("no"),
         }
     }
 }

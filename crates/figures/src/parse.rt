@@ -12,11 +12,13 @@ pub(crate) fn parse_line(line: &str) -> Option<Vector> {
     let name = words.next()?;
     let figure = parse_figure(name, &mut words)?;
     let expected = parse_outcome(figure, words.next()?)?;
-    match words.next() {
-        None => Some(Vector { figure, expected }),
-        Some(_) => None,
-    }
+    words
+        .next()
+        .is_none()
+        .then_some(Vector { figure, expected })
 }
+
+// One function for each kind of answer: in one match they would be longer than a function may be.
 
 // The calls that answer a value or a word.
 fn parse_figure(name: &str, words: &mut SplitWhitespace<'_>) -> Option<Figure> {
@@ -107,23 +109,11 @@ fn parse_model(words: &mut SplitWhitespace<'_>) -> Option<Model> {
 
 // What is expected is of the kind that the figure answers.
 fn parse_outcome(figure: Figure, text: &str) -> Option<Outcome> {
-    match figure {
-        Figure::Join { .. }
-        | Figure::NominalVoltage { .. }
-        | Figure::NominalCurrent { .. }
-        | Figure::StoredMaximum { .. }
-        | Figure::Limit { .. } => Some(Outcome::Pattern(u32::from_str_radix(text, 16).ok()?)),
-        Figure::UpperWord { .. } | Figure::LowerWord { .. } => {
-            Some(Outcome::Word(u16::from_str_radix(text, 16).ok()?))
-        }
-        Figure::SetSteps { .. } | Figure::LimitSteps { .. } | Figure::RampStep { .. } => {
-            Some(Outcome::Count(text.parse::<u32>().ok()?))
-        }
-        Figure::AtMost { .. }
-        | Figure::VoltageAdmitted { .. }
-        | Figure::CurrentAdmitted { .. }
-        | Figure::SpeedAdmitted { .. }
-        | Figure::OutOfBounds { .. } => match text {
+    match figure.outcome() {
+        Outcome::Pattern(_) => u32::from_str_radix(text, 16).ok().map(Outcome::Pattern),
+        Outcome::Word(_) => u16::from_str_radix(text, 16).ok().map(Outcome::Word),
+        Outcome::Count(_) => text.parse::<u32>().ok().map(Outcome::Count),
+        Outcome::Truth(_) => match text {
             "yes" => Some(Outcome::Truth(true)),
             "no" => Some(Outcome::Truth(false)),
             _ => None,
