@@ -4,7 +4,7 @@ use crate::figure::{Figure, Outcome};
 use crate::verdict::Vector;
 use std::num::f32_from_bits_with_nan;
 use std::str::SplitWhitespace;
-use values::Model;
+use values::{Model, Words};
 
 // None if it is no such line.
 pub(crate) fn parse_line(line: &str) -> Option<Vector> {
@@ -24,8 +24,10 @@ pub(crate) fn parse_line(line: &str) -> Option<Vector> {
 fn parse_figure(name: &str, words: &mut SplitWhitespace<'_>) -> Option<Figure> {
     match name {
         "join" => Some(Figure::Join {
-            upper: parse_word(words)?,
-            lower: parse_word(words)?,
+            words: Words {
+                upper: parse_word(words)?,
+                lower: parse_word(words)?,
+            },
         }),
         "upper_word" => Some(Figure::UpperWord {
             value: parse_value(words)?,

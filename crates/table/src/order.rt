@@ -6,7 +6,7 @@ ghost use Rattle.table.specs.Orders.{module_word_order, word_order, channel_orde
 use registers::{
     ChannelValue, ChannelWord, GroupValue, ModuleValue, ModuleWord, ValueRegister, WordRegister,
 };
-use values::join;
+use values::Words;
 
 #[derive(Clone, Copy)]
 pub enum Order {
@@ -65,21 +65,21 @@ fn module_word_order(register: ModuleWord, word: u16) -> Option<Order>
 }
 
 // The order of a value whose two halves were written; none for a value that is read only.
-pub(crate) fn value_order(register: ValueRegister, upper: u16, lower: u16) -> Option<Order>
-    ensures order { result ≡ value_order register upper lower }
+pub(crate) fn value_order(register: ValueRegister, words: Words) -> Option<Order>
+    ensures order { result ≡ value_order register words.upper words.lower }
     ensures placed { (n : ℕ) → ValuePlaced n register → SomeOrderPlaced n result }
 {
     match register {
         ValueRegister::Module(ModuleValue::VoltageRampSpeed) => Some(Order::RampSpeed {
-            percent: join(upper, lower),
+            percent: f32::from(words),
         }),
         ValueRegister::Module(_) => None,
         ValueRegister::Channel { channel, value } => channel_order(
             channel,
             value,
-            join(upper, lower),
+            f32::from(words),
         ),
-        ValueRegister::Group(value) => Some(group_order(value, upper, lower)),
+        ValueRegister::Group(value) => Some(group_order(value, words)),
     }
 }
 
@@ -111,12 +111,12 @@ fn channel_order(channel: usize, register: ChannelValue, value: f32) -> Option<O
     }
 }
 
-fn group_order(register: GroupValue, upper: u16, lower: u16) -> Order
-    ensures order { result ≡ group_order register upper lower }
+fn group_order(register: GroupValue, words: Words) -> Order
+    ensures order { result ≡ group_order register words.upper words.lower }
     ensures placed { (n : ℕ) → OrderPlaced n result }
 {
-    let value = join(upper, lower);
-    let data = upper as u32 * 65536 + lower as u32;
+    let value = f32::from(words);
+    let data = u32::from(words);
     match register {
         GroupValue::Voltage => Order::GroupVoltage { volts: value },
         GroupValue::Current => Order::GroupCurrent { amperes: value },

@@ -9,7 +9,7 @@ use registers::{
     GroupValue, ModuleFault, ModuleValue, ModuleWord, Place, ValueRegister, WordRegister, locate,
 };
 use std::num::f32_to_bits_with_nan;
-use values::at_most;
+use values::{Words, at_most};
 
 fn any_ramping(channels: &[Channel]) -> bool
     ensures { result ≡ any_ramping channels.now }
@@ -160,8 +160,8 @@ impl Table {
     {
         match locate(offset, count)? {
             Place::Word(register) => Ok(self.word(register, count)),
-            Place::Upper(register) => Ok((self.bits(register) / 65536) as u16),
-            Place::Lower(register) => Ok((self.bits(register) % 65536) as u16),
+            Place::Upper(register) => Ok(Words::from(self.bits(register)).upper),
+            Place::Lower(register) => Ok(Words::from(self.bits(register)).lower),
         }
     }
 }

@@ -12,6 +12,7 @@ use crate::channel::bit;
 use crate::order::{Order, value_order, word_order};
 use crate::records::{Channel, Held, Table};
 use registers::{ModuleFault, Place, locate};
+use values::Words;
 
 // What a write asks for: that its upper half is held, or that an order is carried out.
 #[derive(Clone, Copy)]
@@ -68,7 +69,10 @@ fn request_at(held: Held, place: Place, offset: u16, word: u16) -> Result<Reques
                 word: upper,
             },
             Place::Lower(register),
-        ) if awaited == offset => { carry(value_order(register, upper, word), offset) }
+        ) if awaited == offset => {
+            let words = Words { upper, lower: word };
+            carry(value_order(register, words), offset)
+        }
         (_, Place::Lower(_)) => Err(ModuleFault::UpperNotHeld { offset }),
     }
 }
