@@ -1,6 +1,7 @@
 -- What a write does to channel k and to the held half.
 use Rattle.std.proofs.Common.{◌≡◌, ℕ, zero, suc, ◌+◌, ◌<◌, ◌≤◌, min, Bool, true, false, cond, not, ◌&&◌, ◌||◌, eqb, ◌⊎◌, List, [], ◌∷◌, length, get_or, take, set, replicate, Ok, Err, Result, sym, refl, ap, ◌∙◌, subst, inl, inr, arith}
 use lib.Ieee.{Float}
+use Rattle.std.specs.List.{list_any}
 use Rattle.std.proofs.lemmas.Bool.{eqb-true, or_parts}
 use Rattle.values.specs.Ranges.{voltage_admitted}
 use Rattle.values.specs.Words.{value_of}
@@ -20,7 +21,7 @@ use Rattle.table.specs.declared.writing.Request.TheVariants as request
 use Rattle.table.specs.Changes.{blocked, event_passes, switch_refused}
 use Rattle.table.specs.Carrying.{do_clear, module_passes, obeyed, error_noted, admitted, blocked_switch, drive_of, carried, carried_answer}
 use Rattle.table.specs.Orders.{Switching, turned_on, unswitched, emergency, subject_of, quantity_of, switching_of, sets_emergency, sets_on}
-use Rattle.table.specs.Reads.{channel_of, placed, any_of, no_channel}
+use Rattle.table.specs.Reads.{channel_of, placed, no_channel}
 use Rattle.table.specs.Writes.{requested, released, served, served_answer}
 use Rattle.module.specs.State.{State, count, done, driven_by, write_levels, write_state, write_answer}
 use Rattle.module.specs.WriteLaws.{Whole}
@@ -56,11 +57,11 @@ level_falls ls (Err f) k = omega arith
 
 -- ---- blocking
 
-none_at : (P : Channel → Bool) (m k : ℕ) (cs : List Channel) → k < m → k < length cs → any_of P (take m cs) ≡ false → P (get_or cs k no_channel) ≡ false
+none_at : (P : Channel → Bool) (m k : ℕ) (cs : List Channel) → k < m → k < length cs → list_any P (take m cs) ≡ false → P (get_or cs k no_channel) ≡ false
 none_at P m k [] h l e = absurd (omega arith)
 none_at P zero k (c ∷ cs) h l e = absurd (omega arith)
-none_at P (suc m) zero (c ∷ cs) h l e = (or_parts (P c) (any_of P (take m cs)) e).0
-none_at P (suc m) (suc k) (c ∷ cs) h l e = none_at P m k cs (omega arith) (omega arith) (or_parts (P c) (any_of P (take m cs)) e).1
+none_at P (suc m) zero (c ∷ cs) h l e = (or_parts (P c) (list_any P (take m cs)) e).0
+none_at P (suc m) (suc k) (c ∷ cs) h l e = none_at P m k cs (omega arith) (omega arith) (or_parts (P c) (list_any P (take m cs)) e).1
 
 -- a channel that is off and may be switched on holds no kill
 no_kill : (passes : Bool) (c : Channel) → c.on ≡ false → switch_refused passes c ≡ false → c.kill ≡ false
@@ -161,7 +162,7 @@ module _ (s : State) (whole : Whole s) (o w k : ℕ) (low : k < count s) where
   group_free : (d : ℕ) → eqb d 1 ≡ true → c.on ≡ false → blocked_switch (count s) t (subject_of (order.GroupSwitch d)) (switching_of (order.GroupSwitch d)) ≡ false → c.kill ≡ false
   group_free d e off free =
       let is : switching_of (order.GroupSwitch d) ≡ turned_on = ap (λ (b : Bool). cond b turned_on unswitched) e in
-      let none : any_of (switch_refused (module_passes t)) (placed (count s) t) ≡ false = subst (λ (y : Switching). blocked_switch (count s) t (subject_of (order.GroupSwitch d)) y ≡ false) is free in
+      let none : list_any (switch_refused (module_passes t)) (placed (count s) t) ≡ false = subst (λ (y : Switching). blocked_switch (count s) t (subject_of (order.GroupSwitch d)) y ≡ false) is free in
       no_kill (module_passes t) c off (none_at (switch_refused (module_passes t)) (min (count s) 12) k s.table.channels (omega (arith, whole.few)) (omega (arith, whole.few, whole.records)) none)
 
   frees : (x : Order) → c.on ≡ false → blocked_switch (count s) t (subject_of x) (switching_of x) ≡ false → TurnsOn x k → c.kill ≡ false

@@ -1,5 +1,3 @@
-pub mod Any
-pub mod Changing
 pub mod Collecting
 pub mod Ramping
 pub mod RoundLawsBits

@@ -1,8 +1,8 @@
 // Carrying out an order.
 ghost use Rattle.std.specs.Prelude.{◌≡◌, ℕ, IfOk};
+ghost use Rattle.std.specs.List.{list_any};
 ghost use Rattle.table.specs.Orders.{OrderPlaced, subject_of, quantity_of, switching_of};
 ghost use Rattle.table.specs.Changes.{switch_refused};
-ghost use Rattle.table.specs.Reads.{any_of};
 ghost use Rattle.table.specs.Carrying.{control_change, changed_all, module_passes, controlled, obeyed, error_noted, admitted, drive_of, DrivePlaced, blocked_switch, carried, carried_answer};
 
 use crate::change::Change;
@@ -34,14 +34,11 @@ fn control_change(word: u16) -> Change
 }
 
 fn any_refuses_switch(channels: &[Channel], module_passes: bool) -> bool
-    ensures { result ≡ any_of (switch_refused module_passes) channels.now }
+    ensures { result ≡ list_any (switch_refused module_passes) channels.now }
 {
-    for channel in channels {
-        if channel.refuses_switch(module_passes) {
-            return true;
-        }
-    }
-    false
+    channels
+        .iter()
+        .any(|channel| channel.refuses_switch(module_passes))
 }
 
 impl Order {
@@ -69,9 +66,9 @@ impl Table {
     fn change_all(&mut self, change: Change, count: usize)
         ensures { self.new ≡ changed_all count self.old change }
     {
-        let all: &[Channel] = &self.channels;
-        for channel in 0..count.min(all.len()) {
-            self.channels[channel].apply(change);
+        let placed = &mut self.channels[..count.min(12)];
+        for channel in placed.iter_mut() {
+            channel.apply(change);
         }
     }
 

@@ -1,9 +1,9 @@
 // A write: the halves, the order that it completes, and the events collected after it.
 ghost use Rattle.std.specs.Prelude.{◌≡◌, ℕ, ◌≤◌, length, IfOk};
+ghost use Rattle.std.specs.List.{list_any};
 ghost use Rattle.registers.specs.Map.{Placed};
 ghost use Rattle.table.specs.Orders.{SomeOrderPlaced};
 ghost use Rattle.table.specs.Changes.{event_passes};
-ghost use Rattle.table.specs.Reads.{any_of};
 ghost use Rattle.table.specs.Carrying.{DrivePlaced};
 ghost use Rattle.table.specs.Writes.{passing, collected, carries, request_at, requested, served, served_answer, written_table, written_answer, RequestPlaced};
 
@@ -26,21 +26,17 @@ fn passing_word(channels: &[Channel]) -> u16
     ensures { result ≡ passing channels.now }
 {
     let mut word: u16 = 0;
-    for k in (0..channels.len()).rev() {
-        word = word * 2 + bit(channels[k].event_passes(), 1);
+    for (k, channel) in channels.iter().enumerate() {
+        word += bit(channel.event_passes(), 1 << k);
     }
     word
 }
 
-// Whether any has an event that passes its mask, without a branch for each.
+// Whether any has an event that passes its mask.
 fn any_passes(channels: &[Channel]) -> bool
-    ensures { result ≡ any_of event_passes channels.now }
+    ensures { result ≡ list_any event_passes channels.now }
 {
-    let mut any = false;
-    for channel in channels {
-        any = any | channel.event_passes();
-    }
-    any
+    channels.iter().any(|channel| channel.event_passes())
 }
 
 // A register without an order is read only.
