@@ -1,5 +1,5 @@
 -- Switching on is refused exactly for a blocked channel that is off.
-use Rattle.std.proofs.Common.{◌≡◌, ℕ, ◌<◌, ◌≤◌, min, Bool, true, false, cond, not, List, length, get_or, Ok, Err, Result, sym, refl, ap, ◌∙◌, arith}
+use Rattle.std.proofs.Common.{◌≡◌, ℕ, ◌<◌, ◌≤◌, min, Bool, true, false, cond, not, List, length, get_or, Some, Option, Ok, Err, Result, sym, refl, ap, ◌∙◌, arith}
 use Rattle.std.specs.List.{list_any}
 use Rattle.std.proofs.lemmas.List.{length-take, get_or-take, get_or_default}
 use Rattle.std.proofs.lemmas.List.Folds.{Any-from_list_any, list_any_at}
@@ -13,8 +13,7 @@ use Rattle.registers.specs.Faults.{refusal_6}
 use Rattle.registers.specs.Map.{located}
 use Rattle.registers.proofs.Standing.{map_stands}
 use Rattle.table.specs.declared.records.Channel.{Channel}
-use Rattle.table.specs.declared.records.Held.{Held}
-use Rattle.table.specs.declared.records.Held.TheVariants.{Upper}
+use Rattle.table.specs.declared.records.Half.{Half}
 use Rattle.table.specs.declared.records.Table.{Table}
 use Rattle.table.specs.declared.order.Order.TheVariants as order
 use Rattle.table.specs.declared.carrying.Drive.{Drive}
@@ -24,6 +23,7 @@ use Rattle.table.specs.declared.writing.Request.TheVariants as request
 use Rattle.table.specs.Carrying.{module_passes, blocked_switch, drive_of}
 use Rattle.table.specs.Changes.{blocked, switch_refused}
 use Rattle.table.specs.Orders.{of_channel, Switching, unswitched, turned_on, emergency, switching_of, sets_emergency, sets_on}
+use Rattle.table.specs.Parts.{half}
 use Rattle.table.specs.Reads.{no_channel, channel_of, placed}
 use Rattle.table.specs.Writes.{released, request_in, served_answer}
 use Rattle.module.specs.State.{State, count, done, write_answer, write_state}
@@ -81,7 +81,7 @@ module _ (s : State) (k w : ℕ) (few : count s ≤ 12) (below : k < count s) (s
 
 -- ---- all channels
 
-module _ (s : State) (whole : Whole s) (held : s.table.held ≡ Upper 0x2B6 0) where
+module _ (s : State) (whole : Whole s) (held : s.table.held ≡ Some (half 0x2B6 0)) where
   abbrev barred : Channel → Bool
   barred = switch_refused (module_passes s.table)
 
@@ -89,7 +89,7 @@ module _ (s : State) (whole : Whole s) (held : s.table.held ≡ Upper 0x2B6 0) w
   channels = placed (count s) s.table
 
   group_asks : asked s 0x2B6 1 ≡ Ok (request.Carry (order.GroupSwitch 1))
-  group_asks = ap (λ (h : Held). request_in h (located (count s) 0x2B6) 0x2B6 1) held
+  group_asks = ap (λ (h : Option Half). request_in h (located (count s) 0x2B6) 0x2B6 1) held
 
   group_answer : write_answer s 0x2B6 1 ≡ done (cond (list_any barred channels) (Err (refusal_6 0x2B6)) (Ok drive.Nothing))
   group_answer = ap (λ (q : Result Request ModuleFault). done (served_answer (count s) s.table 0x2B6 q)) group_asks

@@ -171,18 +171,12 @@ impl Channel {
     fn settle(&mut self)
         ensures { self.new ≡ Round.settled self.old }
     {
-        let none = Flags {
-            voltage: false,
-            current: false,
-        };
         self.findings = Findings {
-            over: none,
-            inhibited: false,
-            outside: none,
             control: Flags {
                 voltage: self.on,
                 current: false,
             },
+            ..Findings::default()
         };
         self.events |= bit(self.on, 0x0080) + bit(self.emergency, 0x0020);
     }
@@ -259,13 +253,11 @@ impl Table {
         ensures { self.new ≡ Round.begun self.old conditions.now }
     {
         self.conditions = Conditions {
-            temperature: conditions.temperature,
-            supply_good: conditions.supply_good,
-            loop_closed: conditions.loop_closed,
             maxima: Amounts {
                 voltage: stored_maximum(conditions.maxima.voltage),
                 current: stored_maximum(conditions.maxima.current),
             },
+            ..*conditions
         };
         self.events |= bit(!conditions.temperature_good(), 0x4000)
             + bit(!conditions.supply_good, 0x2000)

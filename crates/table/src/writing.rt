@@ -10,13 +10,13 @@ ghost use Rattle.table.specs.Writes.{passing, collected, carries, request_at, re
 use crate::carrying::Drive;
 use crate::channel::bit;
 use crate::order::{Order, value_order, word_order};
-use crate::records::{Channel, Held, Table};
+use crate::records::{Channel, Half, Table};
 use registers::{ModuleFault, Place, locate};
 
-// What a write asks for: that its upper half is held, or that an order is carried out.
+// What a write asks for: that an upper half is held, or that an order is carried out.
 #[derive(Clone, Copy)]
 pub enum Request {
-    Hold,
+    Hold(Half),
     Carry(Order),
 }
 
@@ -44,27 +44,31 @@ fn carry(order: Option<Order>, offset: u16) -> Result<Request, ModuleFault>
     ensures request { result ≡ carries offset order }
     ensures placed { (n : ℕ) → SomeOrderPlaced n order → IfOk result (RequestPlaced n) }
 {
-    match order {
-        Some(order) => Ok(Request::Carry(order)),
-        None => Err(ModuleFault::ReadOnly { offset }),
-    }
+    order
+        .map(Request::Carry)
+        .ok_or(ModuleFault::ReadOnly { offset })
 }
 
 // What a word written at a writable place asks for, with the half held.
-fn request_at(held: Held, place: Place, offset: u16, word: u16) -> Result<Request, ModuleFault>
+fn request_at(
+    held: Option<Half>,
+    place: Place,
+    offset: u16,
+    word: u16,
+) -> Result<Request, ModuleFault>
+    requires { offset ≤ 0x3FE }
     ensures request { result ≡ request_at held place offset word }
     ensures placed { (n : ℕ) → Placed n place → IfOk result (RequestPlaced n) }
 {
     match (held, place) {
         (_, Place::Word(register)) => carry(word_order(register, word), offset),
-        (_, Place::Upper(_)) => Ok(Request::Hold),
-        (
-            Held::Upper {
-                awaited,
-                word: upper,
-            },
-            Place::Lower(register),
-        ) if awaited == offset => { carry(value_order(register, upper, word), offset) }
+        (_, Place::Upper(_)) => Ok(Request::Hold(Half {
+            awaited: offset + 2,
+            word,
+        })),
+        (Some(half), Place::Lower(register)) if half.awaited == offset => {
+            carry(value_order(register, half.word, word), offset)
+        }
         (_, Place::Lower(_)) => Err(ModuleFault::UpperNotHeld { offset }),
     }
 }
@@ -92,18 +96,15 @@ impl Table {
     }
 
     fn serve(&mut self, offset: u16, word: u16, count: usize) -> Result<Drive, ModuleFault>
-        ensures state { self.new ≡ served count self.old offset word (requested count self.old offset word) }
+        ensures state { self.new ≡ served count self.old (requested count self.old offset word) }
         ensures answer { result ≡ served_answer count self.old offset (requested count self.old offset word) }
         ensures placed { IfOk result (DrivePlaced count) }
     {
         let request = self.request(offset, word, count);
-        self.held = Held::Nothing;
+        self.held = None;
         match request? {
-            Request::Hold => {
-                self.held = Held::Upper {
-                    awaited: offset + 2,
-                    word,
-                };
+            Request::Hold(half) => {
+                self.held = Some(half);
                 Ok(Drive::Nothing)
             }
             Request::Carry(order) => self.carry_out(order, offset, count),
