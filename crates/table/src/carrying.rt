@@ -13,7 +13,7 @@ use registers::ModuleFault;
 use values::{current_admitted, speed_admitted, voltage_admitted};
 
 // Which levels an order drives to 0.
-#[derive(Clone, Copy)]
+#[derive(Clone, Copy, Debug, PartialEq, Eq)]
 pub enum Drive {
     Nothing,
     ToZero { channel: usize },

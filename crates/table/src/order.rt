@@ -8,7 +8,7 @@ use registers::{
 };
 use values::join;
 
-#[derive(Clone, Copy)]
+#[derive(Clone, Copy, Debug, PartialEq)]
 pub enum Order {
     ModuleControl { word: u16 },
     ClearModuleEvents { word: u16 },

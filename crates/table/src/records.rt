@@ -5,20 +5,20 @@ ghost use Rattle.table.specs.New.{new_channel, new_table};
 use values::Model;
 
 // A voltage in volts and a current in amperes; as maxima, both in per cent of the nominal value.
-#[derive(Clone, Copy, Default)]
+#[derive(Clone, Copy, Debug, Default, PartialEq)]
 pub struct Amounts {
     pub voltage: f32,
     pub current: f32,
 }
 
-#[derive(Clone, Copy, Default)]
+#[derive(Clone, Copy, Debug, Default, PartialEq, Eq)]
 pub struct Flags {
     pub voltage: bool,
     pub current: bool,
 }
 
 // What the latest round found of a channel.
-#[derive(Clone, Copy, Default)]
+#[derive(Clone, Copy, Debug, Default, PartialEq, Eq)]
 pub struct Findings {
     // above the limit: isVLIM and isCLIM
     pub over: Flags,
@@ -30,7 +30,7 @@ pub struct Findings {
     pub control: Flags,
 }
 
-#[derive(Clone, Copy)]
+#[derive(Clone, Copy, Debug, PartialEq)]
 pub struct Channel {
     pub findings: Findings,
     // a kill is stored: isTRIP
@@ -53,14 +53,14 @@ pub struct Channel {
 }
 
 // The upper half of a value, and the offset of the lower half that completes it.
-#[derive(Clone, Copy)]
+#[derive(Clone, Copy, Debug, PartialEq, Eq)]
 pub struct Half {
     pub awaited: u16,
     pub word: u16,
 }
 
 // The surroundings of a module, as a round brings them.
-#[derive(Clone, Copy)]
+#[derive(Clone, Copy, Debug, PartialEq)]
 pub struct Conditions {
     // degrees Celsius
     pub temperature: f32,
@@ -71,7 +71,7 @@ pub struct Conditions {
 }
 
 // The last accepted value of each fixed group.
-#[derive(Clone, Copy, Default)]
+#[derive(Clone, Copy, Debug, Default, PartialEq)]
 pub struct Groups {
     pub setpoint: Amounts,
     pub bounds: Amounts,
@@ -79,7 +79,7 @@ pub struct Groups {
     pub on_off: u32,
 }
 
-#[derive(Clone, Copy)]
+#[derive(Clone, Copy, Debug, PartialEq)]
 pub struct Table {
     pub model: Model,
     pub channels: [Channel; 12],

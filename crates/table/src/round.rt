@@ -10,7 +10,7 @@ use values::{
 };
 
 // The reading of one channel, in volts and amperes, and whether its inhibit line is low.
-#[derive(Clone, Copy)]
+#[derive(Clone, Copy, Debug, PartialEq)]
 pub struct Reading {
     pub voltage: f32,
     pub current: f32,
@@ -18,7 +18,7 @@ pub struct Reading {
 }
 
 // What a round fixes for every channel.
-#[derive(Clone, Copy)]
+#[derive(Clone, Copy, Debug, PartialEq)]
 pub struct Pass {
     pub model: Model,
     pub kill_enable: bool,
@@ -34,7 +34,7 @@ pub struct Pass {
 }
 
 // Which limits a reading is over.
-#[derive(Clone, Copy)]
+#[derive(Clone, Copy, Debug, PartialEq, Eq)]
 pub struct Excess {
     pub voltage_limit: bool,
     pub current_limit: bool,

@@ -14,7 +14,7 @@ use crate::records::{Channel, Half, Table};
 use registers::{ModuleFault, Place, locate};
 
 // What a write asks for: that an upper half is held, or that an order is carried out.
-#[derive(Clone, Copy)]
+#[derive(Clone, Copy, Debug, PartialEq)]
 pub enum Request {
     Hold(Half),
     Carry(Order),
