@@ -1,4 +1,5 @@
 pub mod Collecting
+pub mod Placing
 pub mod Ramping
 pub mod RoundLawsBits
 pub mod RoundLawsChannel

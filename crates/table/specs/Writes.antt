@@ -16,7 +16,7 @@ use Rattle.table.specs.declared.writing.Request.{Request}
 use Rattle.table.specs.declared.writing.Request.TheVariants as request
 use Rattle.table.specs.Changes.{event_passes}
 use Rattle.table.specs.Carrying.{carried, carried_answer}
-use Rattle.table.specs.Orders.{word_order, value_order, OrderPlaced}
+use Rattle.table.specs.Orders.{word_order, value_order}
 use Rattle.table.specs.Parts.{half, with_held, with_channel_events}
 use Rattle.table.specs.Reads.{placed}
 use Rattle.table.specs.Words.{bit}
@@ -71,8 +71,3 @@ written_table n t o w = collected n (served n t (requested n t o w))
 
 abbrev pub written_answer : ℕ → Table → ℕ → ℕ → Result Drive ModuleFault
 written_answer n t o w = served_answer n t o (requested n t o w)
-
--- the channel of a request, if it has one, is below n
-abbrev pub RequestPlaced : ℕ → Request → Type 0
-RequestPlaced n (request.Hold h) = Unit {0}
-RequestPlaced n (request.Carry x) = OrderPlaced n x

@@ -1,11 +1,9 @@
 // A write: the halves, the order that it completes, and the events collected after it.
-ghost use Rattle.std.specs.Prelude.{◌≡◌, ℕ, ◌≤◌, length, IfOk};
+ghost use Rattle.std.specs.Prelude.{◌≡◌, ◌≤◌, length, IfOk};
 ghost use Rattle.std.specs.List.{list_any};
-ghost use Rattle.registers.specs.Map.{Placed};
-ghost use Rattle.table.specs.Orders.{SomeOrderPlaced};
 ghost use Rattle.table.specs.Changes.{event_passes};
 ghost use Rattle.table.specs.Carrying.{DrivePlaced};
-ghost use Rattle.table.specs.Writes.{passing, collected, carries, request_at, requested, served, served_answer, written_table, written_answer, RequestPlaced};
+ghost use Rattle.table.specs.Writes.{passing, collected, carries, request_at, requested, served, served_answer, written_table, written_answer};
 
 use crate::carrying::Drive;
 use crate::channel::bit;
@@ -41,8 +39,7 @@ fn any_passes(channels: &[Channel]) -> bool
 
 // A register without an order is read only.
 fn carry(order: Option<Order>, offset: u16) -> Result<Request, ModuleFault>
-    ensures request { result ≡ carries offset order }
-    ensures placed { (n : ℕ) → SomeOrderPlaced n order → IfOk result (RequestPlaced n) }
+    ensures { result ≡ carries offset order }
 {
     order
         .map(Request::Carry)
@@ -57,8 +54,7 @@ fn request_at(
     word: u16,
 ) -> Result<Request, ModuleFault>
     requires { offset ≤ 0x3FE }
-    ensures request { result ≡ request_at held place offset word }
-    ensures placed { (n : ℕ) → Placed n place → IfOk result (RequestPlaced n) }
+    ensures { result ≡ request_at held place offset word }
 {
     match (held, place) {
         (_, Place::Word(register)) => carry(word_order(register, word), offset),
@@ -84,9 +80,7 @@ impl Table {
     }
 
     fn request(&self, offset: u16, word: u16, count: usize) -> Result<Request, ModuleFault>
-        ensures request { result ≡ requested count self.now offset word }
-        ensures placed { IfOk result (RequestPlaced count) }
-        ensures within { IfOk result (RequestPlaced 12) }
+        ensures { result ≡ requested count self.now offset word }
     {
         let place = locate(offset, count)?;
         if !place.writable() {
@@ -98,7 +92,6 @@ impl Table {
     fn serve(&mut self, offset: u16, word: u16, count: usize) -> Result<Drive, ModuleFault>
         ensures state { self.new ≡ served count self.old (requested count self.old offset word) }
         ensures answer { result ≡ served_answer count self.old offset (requested count self.old offset word) }
-        ensures placed { IfOk result (DrivePlaced count) }
     {
         let request = self.request(offset, word, count);
         self.held = None;
