@@ -19,13 +19,13 @@ use Rattle.registers.specs.Map.{channel_begins, located}
 use Rattle.registers.specs.Offsets.{offset_of, word_offset, value_offset}
 use Rattle.registers.specs.Rights.{writable}
 use Rattle.registers.proofs.Standing.{map_stands}
-use Rattle.table.specs.declared.records.Held.{Held}
-use Rattle.table.specs.declared.records.Held.TheVariants.{Nothing, Upper}
+use Rattle.table.specs.declared.records.Half.{Half}
 use Rattle.table.specs.declared.records.Table.{Table}
 use Rattle.table.specs.declared.order.Order.{Order}
 use Rattle.table.specs.declared.order.Order.TheVariants as order
 use Rattle.table.specs.declared.writing.Request.TheVariants as request
 use Rattle.table.specs.Orders.{word_order, value_order}
+use Rattle.table.specs.Parts.{half}
 use Rattle.table.specs.Writes.{carries, completes, request_at, request_in, requested}
 
 -- the offset whose write completes an order
@@ -137,28 +137,28 @@ value_from (vr.Group gv.Emergency) u w = (refl, tt)
 value_from (vr.Group gv.OnOff) u w = (refl, refl)
 
 -- the order x was asked for by a write of the word w at the offset o, with the half h held
-pub data Source (h : Held) (o w : ℕ) (x : Order) : Type 0 where
+pub data Source (h : Option Half) (o w : ℕ) (x : Order) : Type 0 where
   one_word : o ≡ order_offset x → MadeOfWord x w → Source h o w x
-  two_halves : (u : ℕ) → h ≡ Upper o u → o ≡ order_offset x → MadeOfHalves x u w → Source h o w x
+  two_halves : (u : ℕ) → h ≡ Some (half o u) → o ≡ order_offset x → MadeOfHalves x u w → Source h o w x
 
 no_order : (f : ModuleFault) (x : Order) → Err f ≡ Ok (request.Carry x) → ⊥
 no_order f x e = let z : ◌≡◌ {A = ℕ} 0 1 = cc in omega arith
 
-module _ (h : Held) (o w : ℕ) (x : Order) where
+module _ (h : Option Half) (o w : ℕ) (x : Order) where
   from_word : (y : Option Order) → FromWord y o w → carries o y ≡ Ok (request.Carry x) → Source h o w x
   from_word None f e = absurd (no_order (refusal_3 o) x e)
   from_word (Some y) f e = let same : y ≡ x = cc in subst (Source h o w) same (one_word f.0 f.1)
 
-  from_half : (u : ℕ) → h ≡ Upper o u → (y : Option Order) → FromHalf y o u w → carries o y ≡ Ok (request.Carry x) → Source h o w x
+  from_half : (u : ℕ) → h ≡ Some (half o u) → (y : Option Order) → FromHalf y o u w → carries o y ≡ Ok (request.Carry x) → Source h o w x
   from_half u held None f e = absurd (no_order (refusal_3 o) x e)
   from_half u held (Some y) f e = let same : y ≡ x = cc in subst (Source h o w) same (two_halves u held f.0 f.1)
 
-  from_held : (g : Held) → h ≡ g → (r : ValueRegister) → o ≡ value_offset r + 2 → completes g o (λ u. value_order r u w) ≡ Ok (request.Carry x) → Source h o w x
-  from_held Nothing is r at e = absurd (no_order (refusal_4 o) x e)
-  from_held (Upper a u) is r at e = by_test (eqb a o) refl e
+  from_held : (g : Option Half) → h ≡ g → (r : ValueRegister) → o ≡ value_offset r + 2 → completes g o (λ u. value_order r u w) ≡ Ok (request.Carry x) → Source h o w x
+  from_held None is r at e = absurd (no_order (refusal_4 o) x e)
+  from_held (Some kept) is r at e = by_test (eqb kept.awaited o) refl e
     where
-      by_test : (b : Bool) → eqb a o ≡ b → cond b (carries o (value_order r u w)) (Err (refusal_4 o)) ≡ Ok (request.Carry x) → Source h o w x
-      by_test true t e = from_half u (is ∙ ap (λ (i : ℕ). Upper i u) (eqb-true a o t)) (value_order r u w) (subst (λ (i : ℕ). FromHalf (value_order r u w) i u w) (sym at) (value_from r u w)) e
+      by_test : (b : Bool) → eqb kept.awaited o ≡ b → cond b (carries o (value_order r kept.word w)) (Err (refusal_4 o)) ≡ Ok (request.Carry x) → Source h o w x
+      by_test true t e = from_half kept.word (is ∙ ap (λ (i : ℕ). Some (half i kept.word)) (eqb-true kept.awaited o t)) (value_order r kept.word w) (subst (λ (i : ℕ). FromHalf (value_order r kept.word w) i kept.word w) (sym at) (value_from r kept.word w)) e
       by_test false t e = absurd (no_order (refusal_4 o) x e)
 
   from_place : (p : Place) → o ≡ offset_of p → request_at h p o w ≡ Ok (request.Carry x) → Source h o w x

@@ -1,5 +1,6 @@
 -- What carrying out an order does, and when it is refused.
 use Rattle.std.specs.Prelude.{ℕ, ◌-◌, ◌<◌, min, Bool, true, false, cond, not, ◌++◌, map, drop, Ok, Err, Result, ◌==◌, bit_and, bit_or, nat_lt, Float}
+use Rattle.std.specs.List.{list_any}
 use Rattle.values.specs.declared.model.Model.{Model}
 use Rattle.values.specs.Ranges.{voltage_admitted, current_admitted, speed_admitted}
 use Rattle.registers.specs.declared.fault.ModuleFault.{ModuleFault}
@@ -15,7 +16,7 @@ use Rattle.table.specs.declared.carrying.Drive.TheVariants as drive
 use Rattle.table.specs.Changes.{changed, switch_refused, with_voltage, with_current}
 use Rattle.table.specs.Orders.{Subject, of_module, of_channel, of_all, subject_of, Quantity, volts, amperes, percent, on_off, bits, quantity_of, Switching, unswitched, turned_on, emergency, switching_of, sets_emergency, sets_on}
 use Rattle.table.specs.Parts.{with_channels, with_channel, with_kill_enable, with_events, with_mask, with_channel_events, with_channel_mask, with_speed, with_groups}
-use Rattle.table.specs.Reads.{channel_of, placed, passes, placed_channels, any_of}
+use Rattle.table.specs.Reads.{channel_of, placed, passes, placed_channels}
 
 -- bit 14 of a ModuleControl word is KillEnable, bit 6 is doCLEAR
 abbrev pub kill_enable : ℕ → Bool
@@ -130,7 +131,7 @@ blocked_switch n t (of_channel k) unswitched = false
 blocked_switch n t (of_channel k) turned_on = switch_refused (module_passes t) (channel_of t k)
 blocked_switch n t (of_channel k) emergency = false
 blocked_switch n t of_all unswitched = false
-blocked_switch n t of_all turned_on = any_of (switch_refused (module_passes t)) (placed n t)
+blocked_switch n t of_all turned_on = list_any (switch_refused (module_passes t)) (placed n t)
 blocked_switch n t of_all emergency = false
 
 -- carried out whole, or refused with the first number that fits

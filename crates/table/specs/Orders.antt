@@ -1,5 +1,5 @@
 -- The order that each completed write makes.
-use Rattle.std.specs.Prelude.{ℕ, ◌+◌, ◌*◌, ◌<◌, Bool, cond, not, Some, None, Option, ◌==◌, bit_and, Float}
+use Rattle.std.specs.Prelude.{ℕ, ◌+◌, ◌*◌, Bool, cond, not, Some, None, Option, ◌==◌, bit_and, Float}
 use Rattle.values.specs.Words.{value_of}
 use Rattle.registers.specs.declared.place.ModuleWord.{ModuleWord}
 use Rattle.registers.specs.declared.place.ModuleWord.TheVariants as mw
@@ -158,16 +158,3 @@ switching_of (order.GroupVoltageBounds v) = unswitched
 switching_of (order.GroupCurrentBounds v) = unswitched
 switching_of (order.GroupEmergency d) = emergency
 switching_of (order.GroupSwitch d) = cond (d == 1) turned_on unswitched
-
--- the channel of an order, if it has one, is below n
-abbrev pub SubjectPlaced : ℕ → Subject → Type 0
-SubjectPlaced n of_module = Unit {0}
-SubjectPlaced n (of_channel k) = k < n
-SubjectPlaced n of_all = Unit {0}
-
-abbrev pub OrderPlaced : ℕ → Order → Type 0
-OrderPlaced n x = SubjectPlaced n (subject_of x)
-
-abbrev pub SomeOrderPlaced : ℕ → Option Order → Type 0
-SomeOrderPlaced n None = Unit {0}
-SomeOrderPlaced n (Some x) = OrderPlaced n x

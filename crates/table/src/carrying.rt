@@ -1,9 +1,10 @@
 // Carrying out an order.
-ghost use Rattle.std.specs.Prelude.{◌≡◌, ℕ, IfOk};
-ghost use Rattle.table.specs.Orders.{OrderPlaced, subject_of, quantity_of, switching_of};
+ghost use Rattle.std.specs.Prelude.{◌≡◌};
+ghost use Rattle.std.specs.List.{list_any};
+ghost use Rattle.table.specs.Orders.{subject_of, quantity_of, switching_of};
 ghost use Rattle.table.specs.Changes.{switch_refused};
-ghost use Rattle.table.specs.Reads.{any_of};
-ghost use Rattle.table.specs.Carrying.{control_change, changed_all, module_passes, controlled, obeyed, error_noted, admitted, drive_of, DrivePlaced, blocked_switch, carried, carried_answer};
+ghost use Rattle.table.specs.Reads.{channel_of};
+ghost use Rattle.table.specs.Carrying.{control_change, changed_at, changed_all, module_passes, controlled, obeyed, error_noted, admitted, drive_of, blocked_switch, carried, carried_answer};
 
 use crate::change::Change;
 use crate::order::Order;
@@ -13,7 +14,7 @@ use registers::ModuleFault;
 use values::{current_admitted, speed_admitted, voltage_admitted};
 
 // Which levels an order drives to 0.
-#[derive(Clone, Copy)]
+#[derive(Clone, Copy, Debug, PartialEq, Eq)]
 pub enum Drive {
     Nothing,
     ToZero { channel: usize },
@@ -34,20 +35,16 @@ fn control_change(word: u16) -> Change
 }
 
 fn any_refuses_switch(channels: &[Channel], module_passes: bool) -> bool
-    ensures { result ≡ any_of (switch_refused module_passes) channels.now }
+    ensures { result ≡ list_any (switch_refused module_passes) channels.now }
 {
-    for channel in channels {
-        if channel.refuses_switch(module_passes) {
-            return true;
-        }
-    }
-    false
+    channels
+        .iter()
+        .any(|channel| channel.refuses_switch(module_passes))
 }
 
 impl Order {
     fn drive(self) -> Drive
-        ensures drive { result ≡ drive_of (subject_of self) (switching_of self) }
-        ensures placed { (n : ℕ) → OrderPlaced n self → DrivePlaced n result }
+        ensures { result ≡ drive_of (subject_of self) (switching_of self) }
     {
         match self {
             Order::ChannelControl { channel, word } if word & 0x0020 != 0 => Drive::ToZero {
@@ -66,12 +63,21 @@ impl Table {
         self.events & self.mask != 0
     }
 
+    // One channel is changed, if it has a record.
+    fn change(&mut self, channel: usize, change: Change)
+        ensures { self.new ≡ changed_at self.old channel change }
+    {
+        if channel < self.channels.len() {
+            self.channels[channel].apply(change);
+        }
+    }
+
     fn change_all(&mut self, change: Change, count: usize)
         ensures { self.new ≡ changed_all count self.old change }
     {
-        let all: &[Channel] = &self.channels;
-        for channel in 0..count.min(all.len()) {
-            self.channels[channel].apply(change);
+        let placed = &mut self.channels[..count.min(12)];
+        for channel in placed.iter_mut() {
+            channel.apply(change);
         }
     }
 
@@ -104,16 +110,24 @@ impl Table {
         }
     }
 
+    // A channel without a record has no events, and is off: only a module event blocks it.
+    fn refuses_switch(&self, channel: usize) -> bool
+        ensures { result ≡ switch_refused (module_passes self.now) (channel_of self.now channel) }
+    {
+        let module_passes = self.module_passes();
+        match self.channels.get(channel) {
+            Some(record) => record.refuses_switch(module_passes),
+            None => module_passes,
+        }
+    }
+
     // A blocked channel that is off would be switched on.
     fn blocks(&self, order: Order, count: usize) -> bool
-        requires { OrderPlaced 12 order }
         ensures { result ≡ blocked_switch count self.now (subject_of order) (switching_of order) }
     {
         match order {
             Order::ChannelControl { channel, word } => {
-                word & 0x0020 == 0
-                    && word & 0x0008 != 0
-                    && self.channels[channel].refuses_switch(self.module_passes())
+                word & 0x0020 == 0 && word & 0x0008 != 0 && self.refuses_switch(channel)
             }
             Order::GroupSwitch { data } => {
                 data == 1
@@ -124,7 +138,6 @@ impl Table {
     }
 
     fn obey(&mut self, order: Order, count: usize)
-        requires { OrderPlaced 12 order }
         ensures { self.new ≡ obeyed count self.old order }
     {
         match order {
@@ -134,26 +147,26 @@ impl Table {
             Order::ClearCollectedEvents { word } => self.channel_events &= !word,
             Order::CollectedEventMask { word } => self.channel_mask = word & placed_channels(count),
             Order::RampSpeed { percent } => self.speed = percent,
-            Order::ChannelControl { channel, word } => self.channels[channel].apply(control_change(
-                word,
-            )),
-            Order::ClearChannelEvents { channel, word } => self.channels[channel].apply(
+            Order::ChannelControl { channel, word } => self.change(channel, control_change(word)),
+            Order::ClearChannelEvents { channel, word } => self.change(
+                channel,
                 Change::ClearEvents { word },
             ),
-            Order::ChannelEventMask { channel, word } => self.channels[channel].apply(
+            Order::ChannelEventMask { channel, word } => self.change(
+                channel,
                 Change::EventMask { word },
             ),
             Order::VoltageSet { channel, volts } => {
-                self.channels[channel].apply(Change::Voltage { volts })
+                self.change(channel, Change::Voltage { volts })
             }
             Order::CurrentSet { channel, amperes } => {
-                self.channels[channel].apply(Change::Current { amperes })
+                self.change(channel, Change::Current { amperes })
             }
             Order::VoltageBounds { channel, volts } => {
-                self.channels[channel].apply(Change::VoltageBounds { volts })
+                self.change(channel, Change::VoltageBounds { volts })
             }
             Order::CurrentBounds { channel, amperes } => {
-                self.channels[channel].apply(Change::CurrentBounds { amperes })
+                self.change(channel, Change::CurrentBounds { amperes })
             }
             Order::GroupVoltage { volts } => {
                 self.change_all(Change::Voltage { volts }, count);
@@ -184,7 +197,6 @@ impl Table {
 
     // The error bits of a value that is not admitted: its channel's, or the module's input error event.
     fn note_error(&mut self, order: Order)
-        requires { OrderPlaced 12 order }
         ensures { self.new ≡ error_noted self.old (subject_of order) }
     {
         match order {
@@ -194,9 +206,7 @@ impl Table {
             | Order::VoltageSet { channel, .. }
             | Order::CurrentSet { channel, .. }
             | Order::VoltageBounds { channel, .. }
-            | Order::CurrentBounds { channel, .. } => self.channels[channel].apply(
-                Change::InputError,
-            ),
+            | Order::CurrentBounds { channel, .. } => self.change(channel, Change::InputError),
             _ => self.events |= 0x0040,
         }
     }
@@ -208,10 +218,8 @@ impl Table {
         offset: u16,
         count: usize,
     ) -> Result<Drive, ModuleFault>
-        requires { OrderPlaced 12 order }
         ensures state { self.new ≡ carried count self.old order }
         ensures answer { result ≡ carried_answer count self.old order offset }
-        ensures placed { (n : ℕ) → OrderPlaced n order → IfOk result (DrivePlaced n) }
     {
         if !self.admits(order) {
             self.note_error(order);

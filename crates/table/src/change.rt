@@ -5,7 +5,7 @@ ghost use Rattle.table.specs.Changes.{changed, emergency_off, switched, event_pa
 use crate::channel::bit;
 use crate::records::Channel;
 
-#[derive(Clone, Copy)]
+#[derive(Clone, Copy, Debug, PartialEq)]
 pub enum Change {
     Voltage { volts: f32 },
     Current { amperes: f32 },

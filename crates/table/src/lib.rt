@@ -11,5 +11,5 @@ pub mod round;
 pub mod writing;
 
 pub use carrying::Drive;
-pub use records::{Amounts, Both, Channel, Conditions, Findings, Flags, Groups, Held, Table};
+pub use records::{Amounts, Both, Channel, Conditions, Findings, Flags, Groups, Half, Table};
 pub use round::{Pass, Reading};

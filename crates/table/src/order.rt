@@ -1,14 +1,13 @@
 // The orders that completed writes make.
-ghost use Rattle.std.specs.Prelude.{◌≡◌, ℕ, ◌<◌};
-ghost use Rattle.registers.specs.Map.{WordPlaced, ValuePlaced};
-ghost use Rattle.table.specs.Orders.{module_word_order, word_order, channel_order, group_order, value_order, OrderPlaced, SomeOrderPlaced};
+ghost use Rattle.std.specs.Prelude.{◌≡◌};
+ghost use Rattle.table.specs.Orders.{module_word_order, word_order, channel_order, group_order, value_order};
 
 use registers::{
     ChannelValue, ChannelWord, GroupValue, ModuleValue, ModuleWord, ValueRegister, WordRegister,
 };
 use values::Words;
 
-#[derive(Clone, Copy)]
+#[derive(Clone, Copy, Debug, PartialEq)]
 pub enum Order {
     ModuleControl { word: u16 },
     ClearModuleEvents { word: u16 },
@@ -33,8 +32,7 @@ pub enum Order {
 
 // The order of a word written to a register of one word; none for a register that is read only.
 pub(crate) fn word_order(register: WordRegister, word: u16) -> Option<Order>
-    ensures order { result ≡ word_order register word }
-    ensures placed { (n : ℕ) → WordPlaced n register → SomeOrderPlaced n result }
+    ensures { result ≡ word_order register word }
 {
     match register {
         WordRegister::Module(module) => module_word_order(module, word),
@@ -51,8 +49,7 @@ pub(crate) fn word_order(register: WordRegister, word: u16) -> Option<Order>
 }
 
 fn module_word_order(register: ModuleWord, word: u16) -> Option<Order>
-    ensures order { result ≡ module_word_order register word }
-    ensures placed { (n : ℕ) → SomeOrderPlaced n result }
+    ensures { result ≡ module_word_order register word }
 {
     match register {
         ModuleWord::Control => Some(Order::ModuleControl { word }),
@@ -66,8 +63,7 @@ fn module_word_order(register: ModuleWord, word: u16) -> Option<Order>
 
 // The order of a value whose two halves were written; none for a value that is read only.
 pub(crate) fn value_order(register: ValueRegister, words: Words) -> Option<Order>
-    ensures order { result ≡ value_order register words.upper words.lower }
-    ensures placed { (n : ℕ) → ValuePlaced n register → SomeOrderPlaced n result }
+    ensures { result ≡ value_order register words.upper words.lower }
 {
     match register {
         ValueRegister::Module(ModuleValue::VoltageRampSpeed) => Some(Order::RampSpeed {
@@ -84,8 +80,7 @@ pub(crate) fn value_order(register: ValueRegister, words: Words) -> Option<Order
 }
 
 fn channel_order(channel: usize, register: ChannelValue, value: f32) -> Option<Order>
-    ensures order { result ≡ channel_order channel register value }
-    ensures placed { (n : ℕ) → channel < n → SomeOrderPlaced n result }
+    ensures { result ≡ channel_order channel register value }
 {
     match register {
         ChannelValue::VoltageSet => Some(Order::VoltageSet {
@@ -112,8 +107,7 @@ fn channel_order(channel: usize, register: ChannelValue, value: f32) -> Option<O
 }
 
 fn group_order(register: GroupValue, words: Words) -> Order
-    ensures order { result ≡ group_order register words.upper words.lower }
-    ensures placed { (n : ℕ) → OrderPlaced n result }
+    ensures { result ≡ group_order register words.upper words.lower }
 {
     let value = f32::from(words);
     let data = u32::from(words);

@@ -14,23 +14,13 @@ use values::{Words, at_most};
 fn any_ramping(channels: &[Channel]) -> bool
     ensures { result ≡ any_ramping channels.now }
 {
-    for channel in channels {
-        if channel.ramping {
-            return true;
-        }
-    }
-    false
+    channels.iter().any(|channel| channel.ramping)
 }
 
 fn any_alarmed(channels: &[Channel]) -> bool
     ensures { result ≡ any_alarmed channels.now }
 {
-    for channel in channels {
-        if channel.alarmed() {
-            return true;
-        }
-    }
-    false
+    channels.iter().any(|channel| channel.alarmed())
 }
 
 // A bit for each of the first `count` channels, 12 at most.

@@ -10,7 +10,7 @@ use values::{
 };
 
 // The reading of one channel, in volts and amperes, and whether its inhibit line is low.
-#[derive(Clone, Copy)]
+#[derive(Clone, Copy, Debug, PartialEq)]
 pub struct Reading {
     pub voltage: f32,
     pub current: f32,
@@ -18,7 +18,7 @@ pub struct Reading {
 }
 
 // What a round fixes for every channel.
-#[derive(Clone, Copy)]
+#[derive(Clone, Copy, Debug, PartialEq)]
 pub struct Pass {
     pub model: Model,
     pub kill_enable: bool,
@@ -34,7 +34,7 @@ pub struct Pass {
 }
 
 // Which limits a reading is over.
-#[derive(Clone, Copy)]
+#[derive(Clone, Copy, Debug, PartialEq, Eq)]
 pub struct Excess {
     pub voltage_limit: bool,
     pub current_limit: bool,
@@ -171,18 +171,12 @@ impl Channel {
     fn settle(&mut self)
         ensures { self.new ≡ Round.settled self.old }
     {
-        let none = Flags {
-            voltage: false,
-            current: false,
-        };
         self.findings = Findings {
-            over: none,
-            inhibited: false,
-            outside: none,
             control: Flags {
                 voltage: self.on,
                 current: false,
             },
+            ..Findings::default()
         };
         self.events |= bit(self.on, 0x0080) + bit(self.emergency, 0x0020);
     }
@@ -259,13 +253,11 @@ impl Table {
         ensures { self.new ≡ Round.begun self.old conditions.now }
     {
         self.conditions = Conditions {
-            temperature: conditions.temperature,
-            supply_good: conditions.supply_good,
-            loop_closed: conditions.loop_closed,
             maxima: Amounts {
                 voltage: stored_maximum(conditions.maxima.voltage),
                 current: stored_maximum(conditions.maxima.current),
             },
+            ..*conditions
         };
         self.events |= bit(!conditions.temperature_good(), 0x4000)
             + bit(!conditions.supply_good, 0x2000)
