@@ -70,9 +70,9 @@ impl<S: Stage> Module<S> {
         conditions: &Conditions,
         readings: &[Reading],
     ) -> Result<(), ModuleFault>
-        ensures state { state_of S.levels self.new ≡ round_state S.regulating (state_of S.levels self.old) conditions.now readings.now }
+        ensures state { state_of S.levels self.new ≡ round_state S.REGULATES (state_of S.levels self.old) conditions.now readings.now }
         ensures answer { result ≡ round_answer (state_of S.levels self.old) readings.now }
-        ensures laws { result ≡ Ok tt → RoundLaws S.regulating (state_of S.levels self.old) conditions.now readings.now (state_of S.levels self.new) }
+        ensures laws { result ≡ Ok tt → RoundLaws S.REGULATES (state_of S.levels self.old) conditions.now readings.now (state_of S.levels self.new) }
         ensures stays { EventsStay (state_of S.levels self.old) (state_of S.levels self.new) }
     {
         let count = self.stage.count();
@@ -82,7 +82,7 @@ impl<S: Stage> Module<S> {
             });
         }
         self.table.begin_round(conditions);
-        let pass = self.table.fix_round(S::regulating());
+        let pass = self.table.fix_round(S::REGULATES);
         for (channel, reading) in readings.iter().enumerate() {
             self.step(channel, reading, &pass)?;
         }

@@ -12,7 +12,7 @@ use std::alloc::{AllocError, Global};
 use values::Model;
 
 fn answer<S: Stage>(module: &mut Module<S>, call: Call) -> Answer
-    ensures state { state_of S.levels «module».new ≡ call_state S.regulating (state_of S.levels «module».old) (asked call) }
+    ensures state { state_of S.levels «module».new ≡ call_state S.REGULATES (state_of S.levels «module».old) (asked call) }
     ensures answer { said_by result ≡ call_said (state_of S.levels «module».old) (asked call) }
 {
     match call {
@@ -31,8 +31,8 @@ fn answer<S: Stage>(module: &mut Module<S>, call: Call) -> Answer
 }
 
 fn reply<S: Stage>(module: &mut Module<S>, call: Call) -> Reply
-    ensures state { state_of S.levels «module».new ≡ call_state S.regulating (state_of S.levels «module».old) (asked call) }
-    ensures reply { told result ≡ call_told S.regulating (state_of S.levels «module».old) (asked call) }
+    ensures state { state_of S.levels «module».new ≡ call_state S.REGULATES (state_of S.levels «module».old) (asked call) }
+    ensures reply { told result ≡ call_told S.REGULATES (state_of S.levels «module».old) (asked call) }
 {
     let answer = answer(module, call);
     Reply {
@@ -48,10 +48,10 @@ pub fn run<S: Stage + Drop>(
     model: Model,
     calls: Vec<Call>,
 ) -> Result<Outcome<S>, AllocError>
-    ensures state { IfOk result (λ x. state_of S.levels x.«module» ≡ run_state S.regulating (new_state model (length (S.levels stage))) (map asked calls.items)) }
-    ensures replies { IfOk result (λ x. map told x.replies.items ≡ run_told S.regulating (new_state model (length (S.levels stage))) (map asked calls.items)) }
-    ensures history { IfOk result (λ x. Tells S.regulating model (length (S.levels stage)) (map asked calls.items) (map told x.replies.items)) }
-    ensures safe { IfOk result (λ x. Safe S.regulating model (length (S.levels stage)) (history (map asked calls.items) (map told x.replies.items))) }
+    ensures state { IfOk result (λ x. state_of S.levels x.«module» ≡ run_state S.REGULATES (new_state model (length (S.levels stage))) (map asked calls.items)) }
+    ensures replies { IfOk result (λ x. map told x.replies.items ≡ run_told S.REGULATES (new_state model (length (S.levels stage))) (map asked calls.items)) }
+    ensures history { IfOk result (λ x. Tells S.REGULATES model (length (S.levels stage)) (map asked calls.items) (map told x.replies.items)) }
+    ensures safe { IfOk result (λ x. Safe S.REGULATES model (length (S.levels stage)) (history (map asked calls.items) (map told x.replies.items))) }
 {
     let mut replies = Vec::with_capacity(heap, calls.len())?;
     let mut module = Module::new(stage, model);

@@ -30,7 +30,7 @@ impl DirectStage {
 impl Stage for DirectStage {
     ghost levels = { λ s. take s.count s.levels };
 
-    ghost regulating = { true };
+    ghost REGULATES = { true };
 
     const REGULATES: bool = true;
 
@@ -39,10 +39,6 @@ impl Stage for DirectStage {
     ghost few = { Prim.search rules };
 
     ghost bounded = { λ s. at_most_take s.count s.levels s.bounded };
-
-    fn regulating() -> bool {
-        Self::REGULATES
-    }
 
     fn count(&self) -> usize {
         self.count

@@ -77,7 +77,7 @@ impl DistributorStage {
 impl Stage for DistributorStage {
     ghost levels = { λ s. levels_of s.count s.common s.drops };
 
-    ghost regulating = { false };
+    ghost REGULATES = { false };
 
     const REGULATES: bool = false;
 
@@ -86,10 +86,6 @@ impl Stage for DistributorStage {
     ghost few = { Prim.search rules };
 
     ghost bounded = { λ s. levels_at_most s.count highest_level s.common s.drops s.bounded };
-
-    fn regulating() -> bool {
-        Self::REGULATES
-    }
 
     fn count(&self) -> usize {
         self.count

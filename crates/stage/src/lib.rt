@@ -39,13 +39,9 @@ pub trait Stage {
     ghost levels: { Self → List ℕ };
 
     // Whether stages of this kind regulate current.
-    ghost regulating: { Bool };
+    ghost REGULATES: { Bool };
 
     const REGULATES: bool;
-
-    // What `REGULATES` is, as a clause can cite it.
-    fn regulating() -> bool
-        ensures { result ≡ regulating };
 
     fn count(&self) -> usize
         ensures { result ≡ length (levels self.now) };

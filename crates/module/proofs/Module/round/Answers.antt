@@ -10,7 +10,7 @@ use Rattle.module.proofs.Module.round.Goals as goal
 pub step-requires : goal.step-requires
 step-requires g c = record {
   channel_in_bounds = omega (arith, c.loop-channel.invariant.1, c.loop-channel-test.true);
-  limit_steps_bound = limit_low c.regulating.result c.args.self.now.table c.begin_round.new.self c.args.conditions.now c.fix_round-pass.result c.fix_round-pass.ensures c.begin_round.ensures;
+  limit_steps_bound = limit_low c.REGULATES.result c.args.self.now.table c.begin_round.new.self c.args.conditions.now c.fix_round-pass.result c.fix_round-pass.ensures c.begin_round.ensures;
 }
 
 pub loop-channel-preserved : goal.loop-channel-preserved
@@ -42,13 +42,13 @@ returns g c =
     let counted : length rs ≡ length s.levels = omega (arith, c.if-readings-count.false, c.count-count.ensures) in
     let all = step_all p e m c.loop-channel.channel rs c.loop-channel.invariant.0 c.loop-channel-test.false in
     let begins = ap (λ (t : Table). let r : State = record { table = t; levels = s.levels } in stepped_from p r 0 rs) c.begin_round.ensures in
-    let is_p = c.fix_round-pass.ensures ∙ ap (pass_of c.regulating.result) c.begin_round.ensures ∙ ap (λ (b : Bool). pass_of b (begun s.table c.args.conditions.now)) c.regulating.ensures in
+    let is_p = c.fix_round-pass.ensures ∙ ap (pass_of c.REGULATES.result) c.begin_round.ensures ∙ ap (λ (b : Bool). pass_of b (begun s.table c.args.conditions.now)) c.REGULATES.ensures in
     let x = c.args.conditions.now in
     let u : State = record { table = c.collect.new.self; levels = m.levels } in
-    let left = state_done g.S.Stage.regulating s x rs counted p m c.count-count.result c.collect.new.self is_p (all ∙ begins) (omega (arith, counted, c.loop-channel.invariant.1, c.count-count.ensures)) c.collect.ensures in
+    let left = state_done g.S.Stage.REGULATES s x rs counted p m c.count-count.result c.collect.new.self is_p (all ∙ begins) (omega (arith, counted, c.loop-channel.invariant.1, c.count-count.ensures)) c.collect.ensures in
     record {
       state = left;
-      answer = answer_done g.S.Stage.regulating s x rs counted;
-      laws = λ ok. round_laws g.S.Stage.regulating s x rs counted u left;
-      stays = round_stays g.S.Stage.regulating s x rs counted u left;
+      answer = answer_done g.S.Stage.REGULATES s x rs counted;
+      laws = λ ok. round_laws g.S.Stage.REGULATES s x rs counted u left;
+      stays = round_stays g.S.Stage.REGULATES s x rs counted u left;
     }

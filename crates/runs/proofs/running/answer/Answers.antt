@@ -12,6 +12,6 @@ returns-in-Block g c =
     let e = c.block-end.ensures.end ∙ ap (block_end 0 s) c.as_mut_slice.ensures.value in
     let whole = with_items_is c.in-Block.accesses c.block-end.new.list (omega arith) in
     record {
-      state = ap (λ (b : BlockEnd). b.state) e ∙ sym (ap (call_state g.S.Stage.regulating s) k);
+      state = ap (λ (b : BlockEnd). b.state) e ∙ sym (ap (call_state g.S.Stage.REGULATES s) k);
       answer = ap (ended c.block-end.result) whole ∙ ap (λ (b : BlockEnd). ended b.answer b.records) e ∙ sym (ap (call_said s) k);
     }

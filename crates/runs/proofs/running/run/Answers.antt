@@ -13,7 +13,7 @@ use Rattle.runs.proofs.running.run.Goals as goal
 pub loop-call-preserved : goal.loop-call-preserved
 loop-call-preserved g c =
     let lv = g.S.Stage.levels in
-    let b = g.S.Stage.regulating in
+    let b = g.S.Stage.REGULATES in
     let s = state_of lv c.loop-call.module in
     let t = state_of lv c.reply.new.module in
     let next = c.in-Some.ensures.cases in
@@ -29,7 +29,7 @@ loop-call-preserved g c =
 pub returns : goal.returns
 returns g c =
     let lv = g.S.Stage.levels in
-    let b = g.S.Stage.regulating in
+    let b = g.S.Stage.REGULATES in
     let s0 : State = new_state c.args.model (length (lv c.args.stage)) in
     let none : into_iter_items c.loop-call.rest ≡ [] =
     nil_from_length (into_iter_items c.loop-call.rest) (sym c.loop-call.rest.rest.ok.0 ∙ c.in_default.ensures.cases.0) in

@@ -7,7 +7,7 @@ use Rattle.runs.proofs.running.run.Given as goal
 abbrev pub invariant-loop-call : goal.invariant-loop-call
 invariant-loop-call g l =
     let lv = g.S.Stage.levels in
-    let b = g.S.Stage.regulating in
+    let b = g.S.Stage.REGULATES in
     (vec_len l.replies + into_iter_len l.rest ≤ vec_capacity l.replies)
     × (run_state b (state_of lv l.module) (map asked (into_iter_items l.rest)) ≡ run_state b (state_of lv l.initial.module) (map asked (into_iter_items l.initial.rest)))
     × (map told (vec_items l.replies) ++ run_told b (state_of lv l.module) (map asked (into_iter_items l.rest))
