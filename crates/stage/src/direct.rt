@@ -6,7 +6,8 @@ ghost use Rattle.std.proofs.Common.{rules};
 
 use crate::{MOST_CHANNELS, Stage, StageFault, can_drive, taken_count};
 
-#[derive(Clone, Copy)]
+// The array is of fixed size and the count stands beside it, since a stage is `Copy` and uses no heap.
+#[derive(Clone, Copy, Debug)]
 pub struct DirectStage {
     count: usize,
     levels: [u32; MOST_CHANNELS],
