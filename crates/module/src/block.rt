@@ -1,6 +1,5 @@
 // A block: a lent list of accesses, done in order up to the first refusal.
 ghost use Rattle.std.specs.Prelude.{◌≡◌};
-ghost use Rattle.module.specs.State.{state_of};
 ghost use Rattle.module.specs.BlockLaws.{BlockLaw};
 ghost use Rattle.module.specs.Blocks.{block_fault, numbered, access_state, access_answer, end_of, block_end};
 
@@ -55,8 +54,8 @@ fn at_index(
 impl<S: Stage> Module<S> {
     // One access: a read puts its word into the record.
     fn access(&mut self, access: Access) -> Result<Access, ModuleFault>
-        ensures state { state_of S.levels self.new ≡ access_state (state_of S.levels self.old) access }
-        ensures answer { result ≡ access_answer (state_of S.levels self.old) access }
+        ensures state { self.new ≡ access_state self.old access }
+        ensures answer { result ≡ access_answer self.old access }
     {
         match access.kind {
             Kind::Read => {
@@ -76,8 +75,8 @@ impl<S: Stage> Module<S> {
 
     // How many accesses were done; at a refusal, that record and later ones keep their words.
     pub fn block(&mut self, list: &mut [Access]) -> Result<usize, BlockFault>
-        ensures end { end_of (state_of S.levels self.new) list.new result ≡ block_end 0 (state_of S.levels self.old) list.old }
-        ensures law { BlockLaw (state_of S.levels self.old) list.old (end_of (state_of S.levels self.new) list.new result) result }
+        ensures end { end_of self.new list.new result ≡ block_end 0 self.old list.old }
+        ensures law { BlockLaw self.old list.old (end_of self.new list.new result) result }
     {
         for index in 0..list.len() {
             list[index] = at_index(index, self.access(list[index]))?;

@@ -14,7 +14,7 @@ pub struct Levels {
 
 impl<S: Stage> Module<S> {
     pub fn levels(&self) -> Levels
-        ensures { result ≡ answered (S.levels self.now.stage) }
+        ensures { result ≡ answered self.now.levels }
     {
         let count = self.stage.count();
         let mut steps = [0; 12];

@@ -61,7 +61,7 @@ fn replies_over<S: Stage + Drop>(
     model: Model,
     calls: Vec<Call>,
 ) -> Result<Vec<Reply>, AllocError>
-    ensures { IfOk result (λ v. map told v.items ≡ run_told S.regulating (new_state model (length (S.levels stage))) (map asked calls.items)) }
+    ensures { IfOk result (λ v. map told v.items ≡ run_told S.REGULATES (new_state model (length (S.levels stage))) (map asked calls.items)) }
 {
     let Outcome { module: _, replies } = run(heap, stage, model, calls)?;
     Ok(replies)

@@ -1,9 +1,9 @@
 -- Lemmas on the definitions of specs/Levels.
-use Rattle.std.specs.Prelude.{◌≡◌, ℕ, zero, suc, ◌<◌, ◌≤◌, true, false, List, [], ◌∷◌, length, take, replicate, Ok, Err, slice_index, slice_set, refl}
-use Rattle.std.proofs.Common.{sym, ap, ◌∙◌, inl, inr, length-set, arith}
-use Rattle.std.proofs.lemmas.List.{length-take-le, get_or-take, take-replicate}
+use Rattle.std.specs.Prelude.{◌≡◌, ℕ, zero, suc, ◌<◌, ◌≤◌, true, false, List, [], ◌∷◌, length, take, Ok, Err, slice_index, slice_set, refl}
+use Rattle.std.proofs.Common.{sym, ap, ◌∙◌, inl, inr, length-set}
+use Rattle.std.proofs.lemmas.List.{length-take-le, get_or-take}
 use Rattle.std.proofs.lemmas.Bool.{lt-ltb, le-ltb, le-leb, lt-leb, and_parts, and_from, and_left, and_right, leb-true, ltb-true, cond-true, cond-false, cond_both}
-use Rattle.stage.specs.Levels.{highest_level, most_channels, AtMost, stage_fault, drivable, taken, level_answer, drive_answer, driven}
+use Rattle.stage.specs.Levels.{highest_level, AtMost, stage_fault, drivable, level_answer, drive_answer, driven}
 use Rattle.stage.specs.Laws.{Outside}
 
 -- channel k of the levels ls was driven to the level x, and they became ms
@@ -23,9 +23,6 @@ at_most_set (y ∷ ys) zero x l h zero = l
 at_most_set (y ∷ ys) zero x l h (suc k) = h (suc k)
 at_most_set (y ∷ ys) (suc i) x l h zero = h zero
 at_most_set (y ∷ ys) (suc i) x l h (suc k) = at_most_set ys i x l (λ j. h (suc j)) k
-
-pub taken_zeros : (n count : ℕ) → n ≡ taken count → take {A = ℕ} n (replicate most_channels 0) ≡ replicate (taken count) 0
-taken_zeros n count e = take-replicate {X = ℕ} n most_channels 0 (omega arith) ∙ ap (λ m. replicate m 0) e
 
 module _ (ls : List ℕ) (k x : ℕ) where
   pub drivable_can : k < length ls → x ≤ highest_level → drivable (length ls) k x ≡ true

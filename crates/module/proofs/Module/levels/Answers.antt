@@ -9,12 +9,12 @@ loop-channel-init g c = refl
 
 pub loop-channel-preserved : goal.loop-channel-preserved
 loop-channel-preserved g c =
-    let ls = g.S.Stage.levels c.args.self.now.stage in
-    listed_more c.loop-channel.channel ls c.loop-channel.steps c.loop-channel.invariant c.unwrap_or.result (omega arith) (g.met.S.Stage.few c.args.self.now.stage)
+    let ls = g.S.Stage.levels c.self.inside.stage in
+    listed_more c.loop-channel.channel ls c.loop-channel.steps c.loop-channel.invariant c.unwrap_or.result (omega arith) (g.met.S.Stage.few c.self.inside.stage)
     (c.unwrap_or.ensures ∙ ap (λ (r : Result ℕ StageFault). result_unwrap_or r 0) c.level.ensures)
 
 pub returns : goal.returns
 returns g c =
-    let ls = g.S.Stage.levels c.args.self.now.stage in
+    let ls = g.S.Stage.levels c.self.inside.stage in
     let all = listed_all c.loop-channel.channel ls c.loop-channel.steps c.loop-channel.invariant (omega arith) in
-    λ i. record { count = c.count-count.ensures i; steps = all i }
+    rw (← c.self.view_is) (λ i. record { count = c.count-count.ensures i; steps = all i })

@@ -1,5 +1,5 @@
 use Rattle.std.proofs.Common.{◌≡◌, length, arith}
-use Rattle.module.specs.State.{State, state_of}
+use Rattle.module.specs.State.{State}
 use Rattle.register_image.specs.Image.{image_word}
 use Rattle.register_image.proofs.Bytes.{filled_more, sized_ok}
 use Rattle.register_image.proofs.Telling.{whole_image, whole_back}
@@ -11,7 +11,7 @@ put_word-requires g c = omega (arith, sized_ok (length c.args.out.now) _ _ c.in_
 pub loop-place-preserved : goal.loop-place-preserved
 loop-place-preserved g c =
     let n = sized_ok (length c.args.out.now) _ _ c.in_ok-check_length.ensures in
-    let s : State = state_of g.S.Stage.levels c.args.«module».now in
+    let s : State = c.args.«module».now in
     filled_more (image_word s) c.loop-place.out c.put_word.new.out c.loop-place.place c.image_word-word.result
     (omega arith) c.image_word-word.ensures c.put_word.ensures c.loop-place.invariant
 
@@ -19,7 +19,7 @@ pub returns : goal.returns
 returns g c =
     let n = sized_ok (length c.args.out.now) _ _ c.in_ok-check_length.ensures in
     let l : length c.loop-place.out ≡ 1024 = omega arith in
-    let s : State = state_of g.S.Stage.levels c.args.«module».now in
+    let s : State = c.args.«module».now in
     record {
       answer = c.in_ok-check_length.ensures;
       image = whole_image s c.args.out.now c.loop-place.out n l (λ j h. c.loop-place.invariant j (omega arith));

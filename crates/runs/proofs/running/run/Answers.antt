@@ -1,7 +1,7 @@
 use Rattle.std.proofs.Common.{◌≡◌, [], ◌∷◌, map, length, vec_items, sym, ap, ◌∙◌, arith}
 use Rattle.std.specs.Vec.Iter.{into_iter_items}
 use Rattle.std.proofs.lemmas.List.{map_push, append-nil, nil_from_length}
-use Rattle.module.specs.State.{State, state_of, new_state}
+use Rattle.module.specs.State.{State, new_state}
 use Rattle.runs.specs.Calls.{asked, told, run_state, run_told}
 use Rattle.runs.specs.History.{history}
 use Rattle.runs.proofs.Histories.{run_true}
@@ -13,9 +13,9 @@ use Rattle.runs.proofs.running.run.Goals as goal
 pub loop-call-preserved : goal.loop-call-preserved
 loop-call-preserved g c =
     let lv = g.S.Stage.levels in
-    let b = g.S.Stage.regulating in
-    let s = state_of lv c.loop-call.module in
-    let t = state_of lv c.reply.new.module in
+    let b = g.S.Stage.REGULATES in
+    let s = c.loop-call.module in
+    let t = c.reply.new.module in
     let next = c.in-Some.ensures.cases in
     let rest = map asked (into_iter_items c.next.new.self) in
     let all = map asked (into_iter_items c.loop-call.rest) in
@@ -29,7 +29,7 @@ loop-call-preserved g c =
 pub returns : goal.returns
 returns g c =
     let lv = g.S.Stage.levels in
-    let b = g.S.Stage.regulating in
+    let b = g.S.Stage.REGULATES in
     let s0 : State = new_state c.args.model (length (lv c.args.stage)) in
     let none : into_iter_items c.loop-call.rest ≡ [] =
     nil_from_length (into_iter_items c.loop-call.rest) (sym c.loop-call.rest.rest.ok.0 ∙ c.in_default.ensures.cases.0) in
