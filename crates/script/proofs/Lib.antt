@@ -1,6 +1,3 @@
-mod Cutting
-mod Fitting
-mod Lines
 mod Listed
 mod Naming
 mod Numerals

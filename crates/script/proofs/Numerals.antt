@@ -1,32 +1,16 @@
 -- Lemmas on texts of digits.
-use Rattle.std.proofs.Common.{◌≡◌, ℕ, ◌+◌, ◌^◌, ◌<◌, ◌≤◌, min, Bool, true, false, cond, not, ◌&&◌, eqb, ltb, leb, List, [], ◌∷◌, length, get_or, drop, pos, Some, Ok, Err, Result, sym, refl, ap, ◌∙◌, subst, arith, ltb-true, ne_eqb, leb-false, leb-true}
+use Rattle.std.proofs.Common.{◌≡◌, ℕ, ◌+◌, ◌^◌, ◌<◌, ◌≤◌, min, Bool, true, false, cond, ◌&&◌, ltb, leb, List, [], ◌∷◌, ◌++◌, length, drop, codes, from_bits, Some, Ok, Err, Result, sym, refl, ap, ◌∙◌, subst, arith, ltb-true, ne_eqb, leb-false, leb-true}
 use native.Mathlib.Nat.{pow-le-pow_right, min-eq_left, min-eq_right}
-use lib.Ieee.{Float, binary32, of_int}
+use lib.Ieee.{Float, binary32}
 use borrow.Author.Tests.{clash}
 use Rattle.std.proofs.lemmas.Int.Digits.{digits_value-lt}
-use Rattle.std.proofs.lemmas.List.{at_drop_more, at_drop_all}
-use Rattle.std.proofs.lemmas.Bool.Decides.{nat_tests}
-use Rattle.std.specs.Float.Parse.{ParsesFloat}
+use Rattle.std.specs.Float.Parse.{IsParseFloatResult, parse_float}
+use Rattle.std.specs.Option.{option_map}
 use Rattle.std.specs.Result.{OkIff, result_ok, result_unwrap_or}
 use Rattle.std.specs.Str.Parse.{AllDigits, IsNumeral, ParsesUnsigned, without_leading_plus, digits_value}
 use Rattle.std.specs.Char.{digit_value}
-use Rattle.script.specs.Numbers.{digits_only, numeral, largest}
-
--- a loop that has come to place i
-module _ (radix : ℕ) (cs : List ℕ) (i : ℕ) (inv : digits_only radix (drop i cs) ≡ digits_only radix cs) where
-  step : i < length cs → digits_only radix (drop i cs) ≡ (ltb (digit_value (get_or cs i 0)) radix && digits_only radix (drop (i + 1) cs))
-  step h = at_drop_more (digits_only radix) cs i 0 h
-
-  pub digit_more : i < length cs → ltb (digit_value (get_or cs i 0)) radix ≡ true → digits_only radix (drop (i + 1) cs) ≡ digits_only radix cs
-  digit_more h e = ap (λ (b : Bool). b && digits_only radix (drop (i + 1) cs)) (sym e) ∙ sym (step h) ∙ inv
-
-  pub digit_fails : i < length cs → ltb (digit_value (get_or cs i 0)) radix ≡ false → false ≡ numeral radix cs
-  digit_fails h e = ap (λ (b : Bool). (b && digits_only radix (drop (i + 1) cs)) && ltb 0 (length cs)) (sym e) ∙ ap (λ (b : Bool). b && ltb 0 (length cs)) (sym (step h) ∙ inv)
-
-  pub digits_all : length cs ≤ i → not (eqb (length cs) 0) ≡ numeral radix cs
-  digits_all h =
-      let some : not (eqb (length cs) 0) ≡ ltb 0 (length cs) = grind (arith, nat_tests) in
-      some ∙ ap (λ (b : Bool). b && ltb 0 (length cs)) (sym (at_drop_all (digits_only radix) cs i h) ∙ inv)
+use Rattle.script.specs.Numbers.{digits_only, numeral, largest, bit_pattern, amount_of}
+use Rattle.script.proofs.Naming.{passed}
 
 pub and_left : (x y : Bool) → (x && y) ≡ true → x ≡ true
 and_left true y e = refl
@@ -80,6 +64,17 @@ saturated (Err f) cs reads e =
     let told : IsNumeral 10 cs × (digits_value 10 cs < 2 ^ 64) → ⊥ = subst (λ (ds : List ℕ). IsNumeral 10 ds × (digits_value 10 ds < 2 ^ 64) → ⊥) (plain 10 cs (omega arith) e) reads in
     sym (min-eq_right (elim (leb largest (digits_value 10 cs)) as (λ b. leb largest (digits_value 10 cs) ≡ b → largest ≤ digits_value 10 cs) [ true ↦ (λ h. leb-true _ _ h) | false ↦ (λ h. absurd (told (numeral_from 10 cs e, omega (arith, leb-false largest (digits_value 10 cs) h)))) ] refl))
 
-pub read_whole : {E : Type 0} (r : Result Float E) (cs : List ℕ) → ParsesFloat binary32 32 cs r → numeral 10 cs ≡ true → digits_value 10 cs < 2 ^ 32 → result_ok r ≡ Some (of_int binary32 (pos (digits_value 10 cs)))
-read_whole r cs reads e low =
-    ap result_ok (subst (λ (ds : List ℕ). IsNumeral 10 ds → digits_value 10 ds < 2 ^ 32 → r ≡ Ok (of_int binary32 (pos (digits_value 10 ds)))) (plain 10 cs (omega arith) e) reads.1 (numeral_from 10 cs e) low)
+-- after `0x` a text is read as bits, any other as a decimal number
+pub amount_bits : (cs ds : List ℕ) → cs ≡ 48 ∷ 120 ∷ ds → amount_of cs ≡ option_map (from_bits binary32) (bit_pattern ds)
+unfolding amount_of
+amount_bits cs ds e = ap amount_of e
+
+pub amount_decimal : (cs : List ℕ) → ((ds : List ℕ) → cs ≡ 48 ∷ 120 ∷ ds → ⊥) → amount_of cs ≡ parse_float binary32 cs
+unfolding amount_of
+amount_decimal [] h = refl
+amount_decimal (a ∷ []) h = passed _ _ (a ∷ []) (codes "0x") (λ e. absurd (omega (arith, ap length e)))
+amount_decimal (a ∷ b ∷ ds) h = passed _ _ (a ∷ b ∷ []) (codes "0x") (λ e. h ds (ap (λ (l : List ℕ). l ++ ds) e))
+
+pub read_decimal : {E : Type 0} (r : Result Float E) (cs : List ℕ) → IsParseFloatResult binary32 cs r → result_ok r ≡ parse_float binary32 cs
+read_decimal (Ok x) cs h = sym h
+read_decimal (Err e) cs h = sym h
