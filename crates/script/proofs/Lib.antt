@@ -1,4 +1,3 @@
 mod Listed
-mod Naming
 mod Numerals
 mod Parsed

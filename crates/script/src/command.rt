@@ -1,7 +1,7 @@
 // The lines of a script, each from its words.
 ghost use Rattle.std.specs.Prelude.{◌≡◌, Some, Ok};
 ghost use Rattle.stage.specs.Levels.{taken};
-ghost use Rattle.script.specs.Commands.{word_at, keyword_read, stage_name, stage_read, choice_of, fitting, model_of, setup_by, read_line, write_line, access_line, reading_line, round_line, module_line, block_line, command_line};
+ghost use Rattle.script.specs.Commands.{word_at, keyword_read, stage_name, stage_read, choice_of, fitting, read_line, write_line, access_line, reading_line, round_line, module_line, block_line, command_line};
 ghost use Rattle.script.specs.Numbers.{decimal_number, hex_word};
 ghost use Rattle.values.specs.Model.{with_volts};
 
@@ -137,20 +137,6 @@ fn expect_words(words: &[&str], count: usize) -> Result<(), Wrong>
     }
 }
 
-fn setup_of(model: &str, stage: &str, count: &str) -> Result<Setup, Wrong>
-    ensures { result ≡ setup_by (model_of (decimal_number model.now)) (stage_read stage.now) (decimal_number count.now) }
-{
-    let volts = decimal(model).ok_or(Wrong::BadModel)?;
-    let model = model_of(volts).ok_or(Wrong::BadModel)?;
-    let stage = stage.parse()?;
-    let count = decimal(count).ok_or(Wrong::BadCount)?;
-    Ok(Setup {
-        model,
-        stage,
-        count: taken_count(count),
-    })
-}
-
 // The word of a read begins as 0.
 fn read_access(words: &[&str]) -> Result<Access, Wrong>
     ensures { result ≡ read_line words.now }
@@ -221,8 +207,15 @@ fn module_command(words: &[&str]) -> Result<Command, Wrong>
     ensures { result ≡ module_line words.now }
 {
     expect_words(words, 4)?;
-    let setup = setup_of(words[1], words[2], words[3])?;
-    Ok(Command::Module(setup))
+    let volts = decimal(words[1]).ok_or(Wrong::BadModel)?;
+    let model = model_of(volts).ok_or(Wrong::BadModel)?;
+    let stage = words[2].parse()?;
+    let count = decimal(words[3]).ok_or(Wrong::BadCount)?;
+    Ok(Command::Module(Setup {
+        model,
+        stage,
+        count: taken_count(count),
+    }))
 }
 
 fn block_command(words: &[&str]) -> Result<Command, Wrong>

@@ -12,7 +12,7 @@ fn is_numeral(text: &str, radix: u32) -> bool
     text.bytes().all(|byte| char::from(byte).is_digit(radix)) && !text.is_empty()
 }
 
-// One to four hexadecimal digits.
+// One to four hexadecimal digits. One function with `bit_pattern` would cast its number, and is no plainer.
 pub(crate) fn hex_word(text: &str) -> Option<u16>
     ensures { result ≡ hex_word text.now }
 {

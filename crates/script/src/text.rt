@@ -1,4 +1,5 @@
 // The text of a listing.
+use crate::command::Setup;
 use crate::listing::{Echo, Entry, Listing, done_count};
 use module::{Access, BlockFault, Kind, Levels};
 use registers::ModuleFault;
@@ -43,23 +44,6 @@ impl fmt::Display for Record {
     }
 }
 
-fn write_block<W: fmt::Write>(
-    f: &mut Formatter<W>,
-    end: Result<usize, BlockFault>,
-    records: &[Access],
-) -> fmt::Result {
-    for record in records {
-        writeln!(f, "  {}", Record(*record))?;
-    }
-    let count = records.len();
-    match end {
-        Ok(done) => write!(f, "block of {count}: {done} done"),
-        Err(BlockFault { index, fault }) => {
-            write!(f, "block of {count}: refused at {index}: {}", Fault(fault))
-        }
-    }
-}
-
 #[derive(Clone, Copy)]
 struct Answered<'a>(&'a Answer);
 
@@ -71,7 +55,18 @@ impl fmt::Display for Answered<'_> {
             Answer::Read(Err(fault)) | Answer::Write(Err(fault)) | Answer::Round(Err(fault)) => {
                 write!(f, "refused {}", Fault(*fault))
             }
-            Answer::Block { end, records } => write_block(f, *end, records.as_slice()),
+            Answer::Block { end, records } => {
+                for record in records {
+                    writeln!(f, "  {}", Record(*record))?;
+                }
+                write!(f, "block of {}: ", records.len())?;
+                match end {
+                    Ok(done) => write!(f, "{done} done"),
+                    Err(BlockFault { index, fault }) => {
+                        write!(f, "refused at {index}: {}", Fault(*fault))
+                    }
+                }
+            }
         }
     }
 }
@@ -94,20 +89,27 @@ impl fmt::Display for Entry {
     }
 }
 
-fn write_levels<W: fmt::Write>(f: &mut Formatter<W>, levels: &Levels) -> fmt::Result {
-    f.write_str("levels")?;
-    for step in levels.steps.iter().take(levels.count) {
-        write!(f, " {step}")?;
+#[derive(Clone, Copy)]
+struct Shown(Levels);
+
+impl fmt::Display for Shown {
+    fn fmt<W: fmt::Write>(&self, f: &mut Formatter<W>) -> fmt::Result {
+        f.write_str("levels")?;
+        for step in self.0.steps.iter().take(self.0.count) {
+            write!(f, " {step}")?;
+        }
+        Ok(())
     }
-    f.write_str("\n")
 }
 
 impl fmt::Display for Listing {
     fn fmt<W: fmt::Write>(&self, f: &mut Formatter<W>) -> fmt::Result {
-        let volts = self.setup.model.volts();
-        let stage = self.setup.stage;
-        let count = self.setup.count;
-        writeln!(f, "module {volts} {stage} {count}")?;
+        let Setup {
+            model,
+            stage,
+            count,
+        } = self.setup;
+        writeln!(f, "module {} {stage} {count}", model.volts())?;
         let mut shown = Levels {
             count,
             steps: [0; MOST_CHANNELS],
@@ -116,10 +118,10 @@ impl fmt::Display for Listing {
             writeln!(f, "{entry}")?;
             if entry.reply.levels != shown {
                 shown = entry.reply.levels;
-                write_levels(f, &shown)?;
+                writeln!(f, "{}", Shown(shown))?;
             }
         }
-        write_levels(f, &shown)?;
+        writeln!(f, "{}", Shown(shown))?;
         let calls = self.entries.len();
         let done = done_count(self.entries.as_slice());
         writeln!(f, "{calls} calls: {done} done, {} refused", calls - done)

@@ -19,6 +19,7 @@ fn before_comment(line: &str) -> &str
 pub(crate) fn words_of(heap: Global, line: &str) -> Result<Vec<&str>, Wrong>
     ensures { MatchResult result (λ v. spelt v.items ≡ words_of line.now) (λ w. (w ≡ out_of_memory) × (0 < length (words_of line.now))) }
 {
+    // A loop: where a line has no words no memory can be missing, which `collect` does not say.
     let mut words = Vec::new(heap);
     let found = before_comment(line)
         .split(' ')
