@@ -6,7 +6,7 @@ use crate::Module;
 use stage::Stage;
 
 // The first `count` are the levels of the channels, in order; the others are 0.
-#[derive(Clone, Copy)]
+#[derive(Clone, Copy, PartialEq, Eq, Debug)]
 pub struct Levels {
     pub count: usize,
     pub steps: [u32; 12],
