@@ -6,9 +6,10 @@ use std::num::{f32_from_bits_with_nan, f32_to_bits_with_nan};
 pub fn join(upper: u16, lower: u16) -> f32
     ensures { result ≡ value_of upper lower }
 {
-    f32_from_bits_with_nan(upper as u32 * 65536 + lower as u32)
+    f32_from_bits_with_nan(u32::from(upper) * 65536 + u32::from(lower))
 }
 
+// The two words differ in the operator, and each is one call.
 pub fn upper_word(value: f32) -> u16
     ensures { result ≡ upper_word value }
 {
