@@ -106,7 +106,7 @@ fn parse_value(words: &mut SplitWhitespace<'_>) -> Option<f32> {
 }
 
 fn parse_model(words: &mut SplitWhitespace<'_>) -> Option<Model> {
-    Model::with_volts(words.next()?.parse::<u32>().ok()?)
+    Model::try_from(words.next()?.parse::<u32>().ok()?).ok()
 }
 
 // What is expected is of the kind that the figure answers.

@@ -110,7 +110,7 @@ fn choice(word: &str, first: &str, second: &str) -> Option<bool>
 fn model_of(volts: usize) -> Option<Model>
     ensures { result ≡ with_volts volts }
 {
-    Model::with_volts(u32::try_from(volts).unwrap_or(0))
+    Model::try_from(u32::try_from(volts).unwrap_or(0)).ok()
 }
 
 fn taken_count(count: usize) -> usize

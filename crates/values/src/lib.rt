@@ -5,7 +5,7 @@ pub mod ranges;
 pub mod steps;
 pub mod words;
 
-pub use model::Model;
+pub use model::{Model, UnknownModel};
 pub use ranges::{
     at_most, current_admitted, limit, out_of_bounds, speed_admitted, stored_maximum,
     voltage_admitted,
