@@ -36,10 +36,9 @@ impl<S: Stage> std::marker::Model for Module<S> {
 
 impl<S: Stage> Module<S> {
     // A new module over a stage with whatever levels: every level is driven to 0.
-    pub fn new(stage: S, model: Model) -> Module<S>
+    pub fn new(mut stage: S, model: Model) -> Module<S>
         ensures { result ≡ new_state model (length (S.levels stage)) }
     {
-        let mut stage = stage;
         let _ = drive_to_zero(&mut stage);
         Module {
             table: Table::new(model),

@@ -4,5 +4,4 @@ use Rattle.module.proofs.Blocking.{ahead}
 use Rattle.module.proofs.Module.block.Given as goal
 
 abbrev pub invariant-loop-index : goal.invariant-loop-index
-invariant-loop-index g l =
-    ahead (take l.index l.list) (block_end l.index l.self (drop l.index l.list)) ≡ block_end 0 l.initial.self l.initial.list
+invariant-loop-index g l = ahead (take l.index-counter l.list) (block_end l.index-counter l.self (drop l.index-counter l.list)) ≡ block_end 0 l.initial.self l.initial.list
