@@ -35,26 +35,28 @@ pub struct Listing {
     pub entries: Vec<Entry>,
 }
 
-fn echo_of(call: &Call) -> Echo
-    ensures { result ≡ echo_of call.now }
-{
-    match call {
-        Call::Read { offset } => Echo::Read { offset: *offset },
-        Call::Write { offset, word } => Echo::Write {
-            offset: *offset,
-            word: *word,
-        },
-        Call::Block { .. } => Echo::Block,
-        Call::Round { readings, .. } => Echo::Round {
-            readings: readings.len(),
-        },
+impl From<&Call> for Echo {
+    ghost from_gives = { λ call r. r ≡ echo_of call.now };
+
+    fn from(call: &Call) -> Echo {
+        match call {
+            Call::Read { offset } => Echo::Read { offset: *offset },
+            Call::Write { offset, word } => Echo::Write {
+                offset: *offset,
+                word: *word,
+            },
+            Call::Block { .. } => Echo::Block,
+            Call::Round { readings, .. } => Echo::Round {
+                readings: readings.len(),
+            },
+        }
     }
 }
 
 fn echoes_of(heap: Global, calls: &[Call]) -> Result<Vec<Echo>, AllocError>
     ensures { IfOk result (λ v. v.items ≡ map echo_of calls.now) }
 {
-    calls.iter().map(echo_of).collect(heap)
+    calls.iter().map(Echo::from).collect(heap)
 }
 
 fn replies_over<S: Stage + Drop>(

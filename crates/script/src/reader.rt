@@ -26,6 +26,16 @@ struct Gathering<T> {
 }
 
 impl<T: Drop> Gathering<T> {
+    fn new(heap: Global, left: usize) -> Gathering<T>
+        ensures { (result.left ≡ left) × (result.items.items ≡ []) }
+    {
+        Gathering {
+            left,
+            items: Vec::new(heap),
+        }
+    }
+
+    // One more of the lines.
     fn with(mut self, item: T) -> Result<Gathering<T>, Wrong>
         ensures { MatchResult result (λ g. (g.left ≡ self.left - 1) × (g.items.items ≡ self.items.items ++ item ∷ [])) (λ w. w ≡ out_of_memory) }
     {
@@ -125,25 +135,16 @@ impl Reader {
             (None, _) => Err(Wrong::NoModule),
             (Some(_), Command::Module(_)) => Err(Wrong::SecondModule),
             (Some(_), Command::Access(access)) => self.with_call(Self::call_of(access)),
-            (Some(_), Command::Block { accesses }) => self.with_pending(Pending::Block(
-                Gathering {
-                    left: accesses,
-                    items: Vec::new(heap),
-                },
-            )),
+            (Some(_), Command::Block { accesses }) => {
+                self.with_pending(Pending::Block(Gathering::new(heap, accesses)))
+            }
             (
                 Some(_),
                 Command::Round {
                     conditions,
                     readings,
                 },
-            ) => self.with_pending(Pending::Round(
-                conditions,
-                Gathering {
-                    left: readings,
-                    items: Vec::new(heap),
-                },
-            )),
+            ) => self.with_pending(Pending::Round(conditions, Gathering::new(heap, readings))),
         }
     }
 

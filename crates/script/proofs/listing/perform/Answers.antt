@@ -1,6 +1,5 @@
 use Rattle.std.proofs.Common.{◌≡◌, List, map, length, sym, ap, ◌∙◌}
 use Rattle.runs.specs.Calls.{told}
-use Rattle.script.specs.declared.listing.Echo.{Echo}
 use Rattle.script.specs.declared.listing.Entry.{Entry}
 use Rattle.script.specs.Listing.{echo_of}
 use Rattle.script.proofs.Listed.{as_many, echoes, replies}

@@ -1,5 +1,4 @@
 use Rattle.std.proofs.Common.{◌≡◌, Err, ap, ◌∙◌, rules}
-use Rattle.script.specs.declared.fault.ScriptFault.{ScriptFault}
 use Rattle.script.proofs.Parsed.{refused_at, no_memory}
 use Rattle.script.proofs.parsing.read_line.Goals as goal
 

@@ -1,4 +1,4 @@
-use Rattle.std.proofs.Common.{ℕ, not, eqb, List, [], ◌∷◌, ◌++◌, length, ap, ◌∙◌, arith, rules, tests, Bor}
+use Rattle.std.proofs.Common.{ℕ, not, eqb, List, length, ap, ◌∙◌, arith, rules, tests, Bor}
 use Rattle.std.proofs.lemmas.Iterator.{YieldsList-from_take}
 use Rattle.std.proofs.lemmas.Iterator.Adapters.{YieldsList-from_flat_map}
 use Rattle.std.proofs.lemmas.Iterator.Consumers.{YieldsList-at, YieldsList-from_filter, YieldsList-turn, YieldsList-end}
@@ -22,12 +22,6 @@ loop-word-init c = (
       c.flat_map.ensures.closure c.flat_map.ensures.front c.flat_map.ensures.back c.flat_map.ensures.done))
       c.filter.ensures.closure (λ x b q k. search (rules, tests))))
       c.take-found.ensures.count),
-)
-
-pub loop-word-preserved : goal.loop-word-preserved
-loop-word-preserved c = (
-  c.in_ok-push.ensures.items ∙ ap (λ (ws : List (Bor (List ℕ))). ws ++ c.in-Some.word ∷ []) c.loop-word.invariant.0,
-  c.loop-word.invariant.1,
 )
 
 pub returns-in_err-push : goal.returns-in_err-push
