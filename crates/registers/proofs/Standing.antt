@@ -21,7 +21,7 @@ Own b [] = Unit {0}
 Own b (r ∷ rs) = (b + r.offset ≡ offset_of r.stands) × Own b rs
 
 own : (b : ℕ) (rs : List Row) (o : ℕ) (p : Place) → Own b rs → stands_in rs o ≡ Some p → b + o ≡ offset_of p
-own b [] o p h e = let z : ◌≡◌ {A = ℕ} 0 1 = cc in absurd (omega arith)
+own b [] o p h e = cc
 own b (r ∷ rs) o p h e = elim (cases_Bool (eqb o r.offset)) [
   | inl t ↦
       let same : Some r.stands ≡ Some p = sym (cond-true (eqb o r.offset) (Some r.stands) (stands_in rs o) t) ∙ e in
@@ -33,9 +33,6 @@ own b (r ∷ rs) o p h e = elim (cases_Bool (eqb o r.offset)) [
 own_channel : (k : ℕ) → Own (channel_begins k) (channel_rows k)
 own_channel k = (refl, (refl, (refl, (refl, (refl, (omega arith, (refl, (omega arith, (refl, (omega arith, (refl, (omega arith, (refl, (omega arith, (refl, (omega arith, (refl, (omega arith, (refl, (omega arith, tt))))))))))))))))))))
 
-not_none : (p : Place) → None ≡ Some p → ⊥
-not_none p e = let z : ◌≡◌ {A = ℕ} 0 1 = cc in omega arith
-
 only_at : (n o : ℕ) (p : Place) → place_at n o ≡ Some p → o ≡ offset_of p
 only_at n o p e = elim (cases_lt o 0x60) [
   | inl h ↦ let q = own 0 module_rows o p (refl, (refl, (refl, (refl, (refl, (refl, (refl, (refl, (refl, (refl, (refl, (refl, (refl, (refl, (refl, (refl, tt)))))))))))))))) (in_module n o h ∙ e) in omega (arith, q)
@@ -44,18 +41,18 @@ only_at n o p e = elim (cases_lt o 0x60) [
       | inl t ↦
           let q = own (channel_begins (channel_at o)) (channel_rows (channel_at o)) (within_channel o) p (own_channel (channel_at o)) (sym (cond-true (ltb (channel_at o) n) _ _ t) ∙ in_channels n o l h ∙ e) in
           omega (arith, q)
-      | inr f ↦ absurd (not_none p (sym (cond-false (ltb (channel_at o) n) _ _ f) ∙ in_channels n o l h ∙ e))
+      | inr f ↦ let q = sym (cond-false (ltb (channel_at o) n) _ _ f) ∙ in_channels n o l h ∙ e in cc
     ]
     | inr h ↦ let q = own 0 group_rows o p (refl, (refl, (refl, (refl, (refl, (refl, (refl, (refl, (refl, (refl, (refl, (refl, tt)))))))))))) (in_groups n o h ∙ e) in omega (arith, q)
   ]
 ]
 
 only_filled : (n o : ℕ) (x : Option Place) (p : Place) → place_at n o ≡ x → filled o x ≡ Ok p → o ≡ offset_of p
-only_filled n o None p e h = let z : ◌≡◌ {A = ℕ} 0 1 = cc in absurd (omega arith)
+only_filled n o None p e h = cc
 only_filled n o (Some q) p e h = let same : q ≡ p = cc in only_at n o q e ∙ ap offset_of same
 
 only_located : (n o : ℕ) (b : Bool) (p : Place) → cond b (Err (refusal_1 o)) (filled o (place_at n o)) ≡ Ok p → o ≡ offset_of p
-only_located n o true p e = let z : ◌≡◌ {A = ℕ} 0 1 = cc in absurd (omega arith)
+only_located n o true p e = cc
 only_located n o false p e = only_filled n o (place_at n o) p refl e
 
 inside : (o : ℕ) → o % 2 ≡ 0 → o ≤ 0x3FE → outside o ≡ false
