@@ -96,6 +96,8 @@ fn parse_test(name: &str, words: &mut SplitWhitespace<'_>) -> Option<Figure> {
     }
 }
 
+// Each width is read by its own type's function, which is no method of a trait.
+
 fn parse_word(words: &mut SplitWhitespace<'_>) -> Option<u16> {
     u16::from_str_radix(words.next()?, 16).ok()
 }

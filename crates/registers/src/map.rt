@@ -128,6 +128,7 @@ fn group_place(offset: u16) -> Option<Place>
 }
 
 // Each register stands at its own offset, and there only.
+#[tactic(auto, using(crate::proofs::Standing::map_stands))]
 pub fn map_stands()
     ensures { MapStands }
 {}
