@@ -24,6 +24,7 @@ use Rattle.table.specs.declared.records.Channel.{Channel}
 use Rattle.table.specs.declared.records.Table.{Table}
 use Rattle.table.specs.declared.change.Change.{Change}
 use Rattle.table.specs.declared.change.Change.TheVariants as change
+use Rattle.table.specs.declared.setting.Setting.TheVariants as setting
 use Rattle.table.specs.declared.order.Order.{Order}
 use Rattle.table.specs.declared.carrying.Drive.{Drive}
 use Rattle.table.specs.declared.writing.Request.{Request}
@@ -79,12 +80,12 @@ module _ (n : ℕ) (t : Table) (u l : ℕ) (U : u < 65536) (L : l < 65536) (reco
   order_returns (vr.Module mv.VoltageMax) h = tt
   order_returns (vr.Module mv.CurrentMax) h = tt
   order_returns (vr.Module mv.Temperature) h = tt
-  order_returns (vr.Channel k cv.VoltageSet) h = λ a. changed_here k (change.Voltage (value_of u l)) (λ c. to_bits binary32 c.setpoint.voltage) h ∙ volts_back a
-  order_returns (vr.Channel k cv.CurrentSet) h = λ a. changed_here k (change.Current (value_of u l)) (λ c. to_bits binary32 c.setpoint.current) h ∙ amperes_back a
+  order_returns (vr.Channel k cv.VoltageSet) h = λ a. changed_here k (change.Set (setting.Voltage (value_of u l))) (λ c. to_bits binary32 c.setpoint.voltage) h ∙ volts_back a
+  order_returns (vr.Channel k cv.CurrentSet) h = λ a. changed_here k (change.Set (setting.Current (value_of u l))) (λ c. to_bits binary32 c.setpoint.current) h ∙ amperes_back a
   order_returns (vr.Channel k cv.VoltageMeasure) h = tt
   order_returns (vr.Channel k cv.CurrentMeasure) h = tt
-  order_returns (vr.Channel k cv.VoltageBounds) h = λ a. changed_here k (change.VoltageBounds (value_of u l)) (λ c. to_bits binary32 c.bounds.voltage) h ∙ volts_back a
-  order_returns (vr.Channel k cv.CurrentBounds) h = λ a. changed_here k (change.CurrentBounds (value_of u l)) (λ c. to_bits binary32 c.bounds.current) h ∙ amperes_back a
+  order_returns (vr.Channel k cv.VoltageBounds) h = λ a. changed_here k (change.Set (setting.VoltageBounds (value_of u l))) (λ c. to_bits binary32 c.bounds.voltage) h ∙ volts_back a
+  order_returns (vr.Channel k cv.CurrentBounds) h = λ a. changed_here k (change.Set (setting.CurrentBounds (value_of u l))) (λ c. to_bits binary32 c.bounds.current) h ∙ amperes_back a
   order_returns (vr.Channel k cv.VoltageNominal) h = tt
   order_returns (vr.Channel k cv.CurrentNominal) h = tt
   order_returns (vr.Group gv.Voltage) h = volts_back

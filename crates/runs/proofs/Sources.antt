@@ -23,10 +23,26 @@ use Rattle.table.specs.declared.records.Half.{Half}
 use Rattle.table.specs.declared.records.Table.{Table}
 use Rattle.table.specs.declared.order.Order.{Order}
 use Rattle.table.specs.declared.order.Order.TheVariants as order
+use Rattle.table.specs.declared.setting.Setting.{Setting}
+use Rattle.table.specs.declared.setting.Setting.TheVariants as setting
 use Rattle.table.specs.declared.writing.Request.TheVariants as request
 use Rattle.table.specs.Orders.{word_order, value_order}
 use Rattle.table.specs.Parts.{half}
 use Rattle.table.specs.Writes.{carries, completes, request_at, request_in, requested}
+
+-- the offsets whose writes complete a value of channel k, and of a group
+
+abbrev pub own_offset : ℕ → Setting → ℕ
+own_offset k (setting.Voltage v) = channel_begins k + 0x08 + 2
+own_offset k (setting.Current v) = channel_begins k + 0x0C + 2
+own_offset k (setting.VoltageBounds v) = channel_begins k + 0x18 + 2
+own_offset k (setting.CurrentBounds v) = channel_begins k + 0x1C + 2
+
+abbrev pub group_offset : Setting → ℕ
+group_offset (setting.Voltage v) = 0x2A2
+group_offset (setting.Current v) = 0x2A6
+group_offset (setting.VoltageBounds v) = 0x2AA
+group_offset (setting.CurrentBounds v) = 0x2AE
 
 -- the offset whose write completes an order
 abbrev pub order_offset : Order → ℕ
@@ -39,14 +55,8 @@ order_offset (order.RampSpeed v) = 0x16
 order_offset (order.ChannelControl k v) = channel_begins k + 0x02
 order_offset (order.ClearChannelEvents k v) = channel_begins k + 0x04
 order_offset (order.ChannelEventMask k v) = channel_begins k + 0x06
-order_offset (order.VoltageSet k v) = channel_begins k + 0x08 + 2
-order_offset (order.CurrentSet k v) = channel_begins k + 0x0C + 2
-order_offset (order.VoltageBounds k v) = channel_begins k + 0x18 + 2
-order_offset (order.CurrentBounds k v) = channel_begins k + 0x1C + 2
-order_offset (order.GroupVoltage v) = 0x2A2
-order_offset (order.GroupCurrent v) = 0x2A6
-order_offset (order.GroupVoltageBounds v) = 0x2AA
-order_offset (order.GroupCurrentBounds v) = 0x2AE
+order_offset (order.ChannelSetting k x) = own_offset k x
+order_offset (order.GroupSetting x) = group_offset x
 order_offset (order.GroupEmergency d) = 0x2B2
 order_offset (order.GroupSwitch d) = 0x2B6
 
@@ -61,16 +71,17 @@ MadeOfWord (order.RampSpeed v) w = Unit {0}
 MadeOfWord (order.ChannelControl k v) w = v ≡ w
 MadeOfWord (order.ClearChannelEvents k v) w = Unit {0}
 MadeOfWord (order.ChannelEventMask k v) w = Unit {0}
-MadeOfWord (order.VoltageSet k v) w = ⊥
-MadeOfWord (order.CurrentSet k v) w = Unit {0}
-MadeOfWord (order.VoltageBounds k v) w = Unit {0}
-MadeOfWord (order.CurrentBounds k v) w = Unit {0}
-MadeOfWord (order.GroupVoltage v) w = ⊥
-MadeOfWord (order.GroupCurrent v) w = Unit {0}
-MadeOfWord (order.GroupVoltageBounds v) w = Unit {0}
-MadeOfWord (order.GroupCurrentBounds v) w = Unit {0}
+MadeOfWord (order.ChannelSetting k x) w = ⊥
+MadeOfWord (order.GroupSetting x) w = ⊥
 MadeOfWord (order.GroupEmergency d) w = Unit {0}
 MadeOfWord (order.GroupSwitch d) w = ⊥
+
+-- a set voltage is the value of its two halves
+abbrev pub MadeSetting : Setting → ℕ → ℕ → Type 0
+MadeSetting (setting.Voltage v) u w = v ≡ value_of u w
+MadeSetting (setting.Current v) u w = Unit {0}
+MadeSetting (setting.VoltageBounds v) u w = Unit {0}
+MadeSetting (setting.CurrentBounds v) u w = Unit {0}
 
 -- what an order made of an upper half u and a lower half w holds
 abbrev pub MadeOfHalves : Order → ℕ → ℕ → Type 0
@@ -83,14 +94,8 @@ MadeOfHalves (order.RampSpeed v) u w = Unit {0}
 MadeOfHalves (order.ChannelControl k v) u w = ⊥
 MadeOfHalves (order.ClearChannelEvents k v) u w = Unit {0}
 MadeOfHalves (order.ChannelEventMask k v) u w = Unit {0}
-MadeOfHalves (order.VoltageSet k v) u w = v ≡ value_of u w
-MadeOfHalves (order.CurrentSet k v) u w = Unit {0}
-MadeOfHalves (order.VoltageBounds k v) u w = Unit {0}
-MadeOfHalves (order.CurrentBounds k v) u w = Unit {0}
-MadeOfHalves (order.GroupVoltage v) u w = v ≡ value_of u w
-MadeOfHalves (order.GroupCurrent v) u w = Unit {0}
-MadeOfHalves (order.GroupVoltageBounds v) u w = Unit {0}
-MadeOfHalves (order.GroupCurrentBounds v) u w = Unit {0}
+MadeOfHalves (order.ChannelSetting k x) u w = MadeSetting x u w
+MadeOfHalves (order.GroupSetting x) u w = MadeSetting x u w
 MadeOfHalves (order.GroupEmergency d) u w = Unit {0}
 MadeOfHalves (order.GroupSwitch d) u w = d ≡ u * 65536 + w
 

@@ -15,6 +15,7 @@ use Rattle.table.specs.declared.carrying.Drive.{Drive}
 use Rattle.table.specs.declared.carrying.Drive.TheVariants as drive
 use Rattle.table.specs.declared.order.Order.{Order}
 use Rattle.table.specs.declared.order.Order.TheVariants as order
+use Rattle.table.specs.declared.setting.Setting.TheVariants as setting
 use Rattle.table.specs.declared.writing.Request.{Request}
 use Rattle.table.specs.declared.writing.Request.TheVariants as request
 use Rattle.table.specs.Changes.{blocked, event_passes, switch_refused}
@@ -113,11 +114,11 @@ module _ (s : State) (whole : Whole s) (o w k : ℕ) (low : k < count s) where
 
   -- an obeyed order that sets the voltage completed a value
 
-  own_value : (v : Float) → Source s.table.held o w (order.VoltageSet k v) → voltage_admitted s.table.model v ≡ true → Completes s o w k v
+  own_value : (v : Float) → Source s.table.held o w (order.ChannelSetting k (setting.Voltage v)) → voltage_admitted s.table.model v ≡ true → Completes s o w k v
   own_value v (one_word at m) fits = absurd m
   own_value v (two_halves u h at m) fits = record { upper = u; held = h; value = m; fits = fits; place = inl at }
 
-  group_value : (v : Float) → Source s.table.held o w (order.GroupVoltage v) → voltage_admitted s.table.model v ≡ true → Completes s o w k v
+  group_value : (v : Float) → Source s.table.held o w (order.GroupSetting (setting.Voltage v)) → voltage_admitted s.table.model v ≡ true → Completes s o w k v
   group_value v (one_word at m) fits = absurd m
   group_value v (two_halves u h at m) fits = record { upper = u; held = h; value = m; fits = fits; place = inr at }
 

@@ -11,7 +11,7 @@ use crate::order::Order;
 use crate::reading::placed_channels;
 use crate::records::{Channel, Table};
 use registers::ModuleFault;
-use values::{current_admitted, speed_admitted, voltage_admitted};
+use values::speed_admitted;
 
 // Which levels an order drives to 0.
 #[derive(Clone, Copy, Debug, PartialEq, Eq)]
@@ -97,14 +97,9 @@ impl Table {
     {
         match order {
             Order::RampSpeed { percent } => speed_admitted(percent),
-            Order::VoltageSet { volts, .. } => voltage_admitted(volts, self.model),
-            Order::CurrentSet { amperes, .. } => current_admitted(amperes, self.model),
-            Order::VoltageBounds { volts, .. } => voltage_admitted(volts, self.model),
-            Order::CurrentBounds { amperes, .. } => current_admitted(amperes, self.model),
-            Order::GroupVoltage { volts } => voltage_admitted(volts, self.model),
-            Order::GroupCurrent { amperes } => current_admitted(amperes, self.model),
-            Order::GroupVoltageBounds { volts } => voltage_admitted(volts, self.model),
-            Order::GroupCurrentBounds { amperes } => current_admitted(amperes, self.model),
+            Order::ChannelSetting { setting, .. } | Order::GroupSetting { setting } => {
+                setting.admitted(self.model)
+            }
             Order::GroupSwitch { data } => data < 2,
             _ => true,
         }
@@ -156,33 +151,13 @@ impl Table {
                 channel,
                 Change::EventMask { word },
             ),
-            Order::VoltageSet { channel, volts } => {
-                self.change(channel, Change::Voltage { volts })
-            }
-            Order::CurrentSet { channel, amperes } => {
-                self.change(channel, Change::Current { amperes })
-            }
-            Order::VoltageBounds { channel, volts } => {
-                self.change(channel, Change::VoltageBounds { volts })
-            }
-            Order::CurrentBounds { channel, amperes } => {
-                self.change(channel, Change::CurrentBounds { amperes })
-            }
-            Order::GroupVoltage { volts } => {
-                self.change_all(Change::Voltage { volts }, count);
-                self.groups.setpoint.voltage = volts;
-            }
-            Order::GroupCurrent { amperes } => {
-                self.change_all(Change::Current { amperes }, count);
-                self.groups.setpoint.current = amperes;
-            }
-            Order::GroupVoltageBounds { volts } => {
-                self.change_all(Change::VoltageBounds { volts }, count);
-                self.groups.bounds.voltage = volts;
-            }
-            Order::GroupCurrentBounds { amperes } => {
-                self.change_all(Change::CurrentBounds { amperes }, count);
-                self.groups.bounds.current = amperes;
+            Order::ChannelSetting { channel, setting } => self.change(
+                channel,
+                Change::Set(setting),
+            ),
+            Order::GroupSetting { setting } => {
+                self.change_all(Change::Set(setting), count);
+                setting.store(&mut self.groups.setpoint, &mut self.groups.bounds);
             }
             Order::GroupEmergency { data } => {
                 self.change_all(Change::EmergencyOff, count);
@@ -203,10 +178,7 @@ impl Table {
             Order::ChannelControl { channel, .. }
             | Order::ClearChannelEvents { channel, .. }
             | Order::ChannelEventMask { channel, .. }
-            | Order::VoltageSet { channel, .. }
-            | Order::CurrentSet { channel, .. }
-            | Order::VoltageBounds { channel, .. }
-            | Order::CurrentBounds { channel, .. } => self.change(channel, Change::InputError),
+            | Order::ChannelSetting { channel, .. } => self.change(channel, Change::InputError),
             _ => self.events |= 0x0040,
         }
     }

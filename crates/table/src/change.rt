@@ -4,13 +4,11 @@ ghost use Rattle.table.specs.Changes.{changed, emergency_off, switched, event_pa
 
 use crate::channel::bit;
 use crate::records::Channel;
+use crate::setting::Setting;
 
 #[derive(Clone, Copy, Debug, PartialEq)]
 pub enum Change {
-    Voltage { volts: f32 },
-    Current { amperes: f32 },
-    VoltageBounds { volts: f32 },
-    CurrentBounds { amperes: f32 },
+    Set(Setting),
     EmergencyOff,
     Switch { on: bool },
     ClearEvents { word: u16 },
@@ -26,20 +24,8 @@ impl Channel {
         ensures { self.new ≡ changed self.old change }
     {
         match change {
-            Change::Voltage { volts } => {
-                self.setpoint.voltage = volts;
-                self.error = false;
-            }
-            Change::Current { amperes } => {
-                self.setpoint.current = amperes;
-                self.error = false;
-            }
-            Change::VoltageBounds { volts } => {
-                self.bounds.voltage = volts;
-                self.error = false;
-            }
-            Change::CurrentBounds { amperes } => {
-                self.bounds.current = amperes;
+            Change::Set(setting) => {
+                setting.store(&mut self.setpoint, &mut self.bounds);
                 self.error = false;
             }
             Change::EmergencyOff => self.emergency_off(),

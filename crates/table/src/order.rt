@@ -2,6 +2,7 @@
 ghost use Rattle.std.specs.Prelude.{◌≡◌};
 ghost use Rattle.table.specs.Orders.{module_word_order, word_order, channel_order, group_order, value_order};
 
+use crate::setting::Setting;
 use registers::{
     ChannelValue, ChannelWord, GroupValue, ModuleValue, ModuleWord, ValueRegister, WordRegister,
 };
@@ -18,14 +19,8 @@ pub enum Order {
     ChannelControl { channel: usize, word: u16 },
     ClearChannelEvents { channel: usize, word: u16 },
     ChannelEventMask { channel: usize, word: u16 },
-    VoltageSet { channel: usize, volts: f32 },
-    CurrentSet { channel: usize, amperes: f32 },
-    VoltageBounds { channel: usize, volts: f32 },
-    CurrentBounds { channel: usize, amperes: f32 },
-    GroupVoltage { volts: f32 },
-    GroupCurrent { amperes: f32 },
-    GroupVoltageBounds { volts: f32 },
-    GroupCurrentBounds { amperes: f32 },
+    ChannelSetting { channel: usize, setting: Setting },
+    GroupSetting { setting: Setting },
     GroupEmergency { data: u32 },
     GroupSwitch { data: u32 },
 }
@@ -82,28 +77,17 @@ pub(crate) fn value_order(register: ValueRegister, words: Words) -> Option<Order
 fn channel_order(channel: usize, register: ChannelValue, value: f32) -> Option<Order>
     ensures { result ≡ channel_order channel register value }
 {
-    match register {
-        ChannelValue::VoltageSet => Some(Order::VoltageSet {
-            channel,
-            volts: value,
-        }),
-        ChannelValue::CurrentSet => Some(Order::CurrentSet {
-            channel,
-            amperes: value,
-        }),
-        ChannelValue::VoltageBounds => Some(Order::VoltageBounds {
-            channel,
-            volts: value,
-        }),
-        ChannelValue::CurrentBounds => Some(Order::CurrentBounds {
-            channel,
-            amperes: value,
-        }),
+    let setting = match register {
+        ChannelValue::VoltageSet => Setting::Voltage(value),
+        ChannelValue::CurrentSet => Setting::Current(value),
+        ChannelValue::VoltageBounds => Setting::VoltageBounds(value),
+        ChannelValue::CurrentBounds => Setting::CurrentBounds(value),
         ChannelValue::VoltageMeasure
         | ChannelValue::CurrentMeasure
         | ChannelValue::VoltageNominal
-        | ChannelValue::CurrentNominal => None,
-    }
+        | ChannelValue::CurrentNominal => return None,
+    };
+    Some(Order::ChannelSetting { channel, setting })
 }
 
 fn group_order(register: GroupValue, words: Words) -> Order
@@ -111,12 +95,13 @@ fn group_order(register: GroupValue, words: Words) -> Order
 {
     let value = f32::from(words);
     let data = u32::from(words);
-    match register {
-        GroupValue::Voltage => Order::GroupVoltage { volts: value },
-        GroupValue::Current => Order::GroupCurrent { amperes: value },
-        GroupValue::VoltageBounds => Order::GroupVoltageBounds { volts: value },
-        GroupValue::CurrentBounds => Order::GroupCurrentBounds { amperes: value },
-        GroupValue::Emergency => Order::GroupEmergency { data },
-        GroupValue::OnOff => Order::GroupSwitch { data },
-    }
+    let setting = match register {
+        GroupValue::Voltage => Setting::Voltage(value),
+        GroupValue::Current => Setting::Current(value),
+        GroupValue::VoltageBounds => Setting::VoltageBounds(value),
+        GroupValue::CurrentBounds => Setting::CurrentBounds(value),
+        GroupValue::Emergency => return Order::GroupEmergency { data },
+        GroupValue::OnOff => return Order::GroupSwitch { data },
+    };
+    Order::GroupSetting { setting }
 }
