@@ -3,6 +3,8 @@ use Rattle.std.proofs.Common.{◌≡◌, ℕ, ◌+◌, ◌<◌, List, [], ◌∷
 use Rattle.std.specs.Borrow.{Bor}
 use Rattle.std.specs.Result.{IsErrAnd}
 use Rattle.std.proofs.lemmas.List.{drop_more}
+use Rattle.std.proofs.lemmas.List.FromFn.{get_or-enumerate_from, length-enumerate_from}
+use Rattle.std.specs.List.{enumerate_from}
 use Rattle.script.specs.declared.fault.ScriptFault.{ScriptFault}
 use Rattle.script.specs.declared.fault.Wrong.{Wrong}
 use Rattle.script.specs.declared.reader.Script.{Script}
@@ -37,13 +39,22 @@ module _ (p : Progress) (n : ℕ) (r : Result Progress ScriptFault) (e : r ≡ E
   pub no_memory : (line : List ℕ) → 0 < length (words_of line) → LineRead p n line r
   no_memory line some = (spell (words_of line), spelt-spell (words_of line), no_memory_by (words_of line) some)
 
--- the line at place k
+-- where the k-th line is among the numbered lines
+numbered : (ls : List (List ℕ)) (k i : ℕ) (l : List ℕ) → (k < length (enumerate_from 0 ls)) × ((i, l) ≡ get_or (enumerate_from 0 ls) k (i, l)) → (k < length ls) × (i ≡ k) × (l ≡ get_or ls k l)
+numbered ls k i l turn =
+    let below : k < length ls = omega (arith, turn.0, length-enumerate_from 0 ls) in
+    let same = turn.1 ∙ get_or-enumerate_from 0 ls k (i, l) below in
+    (below, ap (λ (x : ℕ × List ℕ). x.0) same ∙ omega arith, ap (λ (x : ℕ × List ℕ). x.1) same)
+
+-- one line more after the first k
 pub line_parsed :
-    (ls : List (List ℕ)) (k : ℕ) (l : List ℕ) → k < length ls → l ≡ get_or ls k l → (p : Progress) (x : Result Progress ScriptFault) → LineRead p (k + 1) l x
+    (ls : List (List ℕ)) (k i : ℕ) (l : List ℕ) → (k < length (enumerate_from 0 ls)) × ((i, l) ≡ get_or (enumerate_from 0 ls) k (i, l)) → (p : Progress) (x : Result Progress ScriptFault) → LineRead p (i + 1) l x
     → (r : Result Script ScriptFault) → MatchResult x (λ q. Parses (k + 1 + 1) q (drop (k + 1) ls) r) (λ f. r ≡ Err f) → Parses (k + 1) p (drop k ls) r
-line_parsed ls k l h is p x read r more =
-    let left : l ∷ drop (k + 1) ls ≡ drop k ls = ap (λ (m : List ℕ). m ∷ drop (k + 1) ls) is ∙ sym (drop_more ls k l h) in
-    subst (λ (ms : List (List ℕ)). Parses (k + 1) p ms r) left (x, read, more)
+line_parsed ls k i l turn p x read r more =
+    let here = numbered ls k i l turn in
+    let left : l ∷ drop (k + 1) ls ≡ drop k ls = ap (λ (m : List ℕ). m ∷ drop (k + 1) ls) here.2 ∙ sym (drop_more ls k l here.0) in
+    let read_here : LineRead p (k + 1) l x = subst (λ (n : ℕ). LineRead p (n + 1) l x) here.1 read in
+    subst (λ (ms : List (List ℕ)). Parses (k + 1) p ms r) left (x, read_here, more)
 
 whole_of : (n : ℕ) (x : Result Script Wrong) → whole_at (at_line n x) ≡ at_line n (whole_by x)
 whole_of n (Ok x) = refl

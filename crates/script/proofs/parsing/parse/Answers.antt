@@ -9,13 +9,6 @@ use Rattle.script.specs.Lines.{lines_of, LineRead, Parses}
 use Rattle.script.proofs.Parsed.{line_parsed, ends}
 use Rattle.script.proofs.parsing.parse.Goals as goal
 
--- where the k-th line is among the numbered lines
-numbered : (ls : List (List ℕ)) (k i : ℕ) (l : List ℕ) → (k < length (enumerate_from 0 ls)) × ((i, l) ≡ get_or (enumerate_from 0 ls) k (i, l)) → (k < length ls) × (i ≡ k) × (l ≡ get_or ls k l)
-numbered ls k i l h =
-    let below : k < length ls = omega (arith, h.0, length-enumerate_from 0 ls) in
-    let same = h.1 ∙ get_or-enumerate_from 0 ls k (i, l) below in
-    (below, ap (λ (x : ℕ × List ℕ). x.0) same ∙ omega arith, ap (λ (x : ℕ × List ℕ). x.1) same)
-
 pub loop-index-init : goal.loop-index-init
 loop-index-init c = (
   λ r k. subst (λ (p : _). Parses 1 p (lines_of c.args.text.now) r) c.new-reader.ensures k,
@@ -25,26 +18,21 @@ loop-index-init c = (
 
 pub returns-in_err-reader-clause-parsed : goal.returns-in_err-reader-clause-parsed
 returns-in_err-reader-clause-parsed c =
-    let ls = lines_of c.args.text.now in
-    let k = length c.loop-index.yielded in
-    let line = c.in-Some.line.now in
     let fault = c.in_err-reader.field-0.0 in
-    let here = numbered ls k c.in-Some.index line (YieldsList-turn c.loop-index.invariant.1 c.loop-index.yielded _ c.loop-index.yielded_by _ _ (c.in-Some.index, c.in-Some.line) c.in-Some.is c.next.ensures.steps) in
+    let turn = YieldsList-turn c.loop-index.invariant.1 c.loop-index.yielded _ c.loop-index.yielded_by _ _ (c.in-Some.index, c.in-Some.line) c.in-Some.is c.next.ensures.steps in
     let e : c.from_residual.result ≡ Err fault = search rules in
-    let read : LineRead c.loop-index.reader (k + 1) line (Err fault) = subst (λ (i : ℕ). LineRead c.loop-index.reader (i + 1) line (Err fault)) here.1 c.in_err-reader.ensures in
-    c.loop-index.invariant.0 c.from_residual.result (line_parsed ls k line here.0 here.2 c.loop-index.reader (Err fault) read c.from_residual.result e)
+    c.loop-index.invariant.0 c.from_residual.result
+    (line_parsed (lines_of c.args.text.now) (length c.loop-index.yielded) c.in-Some.index c.in-Some.line.now turn c.loop-index.reader (Err fault) c.in_err-reader.ensures c.from_residual.result e)
 
 pub loop-index-preserved : goal.loop-index-preserved
 loop-index-preserved c =
     let ls = lines_of c.args.text.now in
-    let k = length c.loop-index.yielded in
-    let line = c.in-Some.line.now in
     let x = c.in_ok-reader.reader in
-    let here = numbered ls k c.in-Some.index line (YieldsList-turn c.loop-index.invariant.1 c.loop-index.yielded _ c.loop-index.yielded_by _ _ (c.in-Some.index, c.in-Some.line) c.in-Some.is c.next.ensures.steps) in
-    let read : LineRead c.loop-index.reader (k + 1) line (Ok x) = subst (λ (i : ℕ). LineRead c.loop-index.reader (i + 1) line (Ok x)) here.1 c.in_ok-reader.ensures in (
+    let turn = YieldsList-turn c.loop-index.invariant.1 c.loop-index.yielded _ c.loop-index.yielded_by _ _ (c.in-Some.index, c.in-Some.line) c.in-Some.is c.next.ensures.steps in (
       λ r more.
           c.loop-index.invariant.0 r
-          (line_parsed ls k line here.0 here.2 c.loop-index.reader (Ok x) read r (subst (λ (n : ℕ). Parses (n + 1) x (drop n ls) r) (length_push c.loop-index.yielded (c.in-Some.index, c.in-Some.line)) more)),
+          (line_parsed ls (length c.loop-index.yielded) c.in-Some.index c.in-Some.line.now turn c.loop-index.reader (Ok x) c.in_ok-reader.ensures r
+          (subst (λ (n : ℕ). Parses (n + 1) x (drop n ls) r) (length_push c.loop-index.yielded (c.in-Some.index, c.in-Some.line)) more)),
       c.loop-index.invariant.1,
     )
 
