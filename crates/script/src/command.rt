@@ -1,6 +1,5 @@
 // The lines of a script, each from its words.
 ghost use Rattle.std.specs.Prelude.{◌≡◌, Some, Ok};
-ghost use Rattle.stage.specs.Levels.{taken};
 ghost use Rattle.script.specs.Commands.{word_at, keyword_read, stage_name, stage_read, choice_of, fitting, read_line, write_line, access_line, reading_line, round_line, module_line, block_line, command_line};
 ghost use Rattle.script.specs.Numbers.{decimal_number, hex_word};
 ghost use Rattle.values.specs.Model.{with_volts};
@@ -8,7 +7,7 @@ ghost use Rattle.values.specs.Model.{with_volts};
 use crate::fault::Wrong;
 use crate::numbers::{amount, decimal, hex_word};
 use module::{Access, Kind};
-use stage::MOST_CHANNELS;
+use stage::taken_count;
 use std::fmt;
 use std::str::FromStr;
 use table::{Amounts, Conditions, Reading};
@@ -111,12 +110,6 @@ fn model_of(volts: usize) -> Option<Model>
     ensures { result ≡ with_volts volts }
 {
     Model::try_from(u32::try_from(volts).unwrap_or(0)).ok()
-}
-
-fn taken_count(count: usize) -> usize
-    ensures { result ≡ taken count }
-{
-    count.min(MOST_CHANNELS).max(1)
 }
 
 fn first_word(words: &[&str]) -> Result<Keyword, Wrong>

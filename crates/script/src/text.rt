@@ -2,33 +2,10 @@
 use crate::command::Setup;
 use crate::listing::{Echo, Entry, Listing, done_count};
 use module::{Access, BlockFault, Kind, Levels};
-use registers::ModuleFault;
 use runs::Answer;
 use stage::MOST_CHANNELS;
 use std::fmt;
 use std::fmt::Formatter;
-
-// The number of a refusal, and what it carries.
-#[derive(Clone, Copy)]
-struct Fault(ModuleFault);
-
-impl fmt::Display for Fault {
-    fn fmt<W: fmt::Write>(&self, f: &mut Formatter<W>) -> fmt::Result {
-        let number = self.0.number();
-        match self.0 {
-            ModuleFault::Outside { offset }
-            | ModuleFault::EmptyPlace { offset }
-            | ModuleFault::ReadOnly { offset }
-            | ModuleFault::UpperNotHeld { offset }
-            | ModuleFault::NotAdmitted { offset }
-            | ModuleFault::Blocked { offset } => write!(f, "{number} offset {offset:04X}"),
-            ModuleFault::NoChannel { channel } => write!(f, "{number} channel {channel}"),
-            ModuleFault::Readings { count } => write!(f, "{number} readings {count}"),
-            ModuleFault::ImageLength { bytes } => write!(f, "{number} bytes {bytes}"),
-            ModuleFault::Stage(fault) => write!(f, "{number} channel {}", fault.channel),
-        }
-    }
-}
 
 // An access of a block, as the block left it.
 #[derive(Clone, Copy)]
@@ -53,7 +30,7 @@ impl fmt::Display for Answered<'_> {
             Answer::Read(Ok(word)) => write!(f, "{word:04X}"),
             Answer::Write(Ok(())) | Answer::Round(Ok(())) => f.write_str("done"),
             Answer::Read(Err(fault)) | Answer::Write(Err(fault)) | Answer::Round(Err(fault)) => {
-                write!(f, "refused {}", Fault(*fault))
+                write!(f, "refused {fault}")
             }
             Answer::Block { end, records } => {
                 for record in records {
@@ -62,9 +39,7 @@ impl fmt::Display for Answered<'_> {
                 write!(f, "block of {}: ", records.len())?;
                 match end {
                     Ok(done) => write!(f, "{done} done"),
-                    Err(BlockFault { index, fault }) => {
-                        write!(f, "refused at {index}: {}", Fault(*fault))
-                    }
+                    Err(BlockFault { index, fault }) => { write!(f, "refused at {index}: {fault}") }
                 }
             }
         }
