@@ -3,13 +3,13 @@ ghost use Rattle.std.specs.Prelude.{◌≡◌};
 ghost use Rattle.std.specs.List.{list_any};
 ghost use Rattle.table.specs.Orders.{subject_of, quantity_of, switching_of};
 ghost use Rattle.table.specs.Changes.{switch_refused};
-ghost use Rattle.table.specs.Reads.{channel_of};
+ghost use Rattle.table.specs.Reads.{channel_of, placed};
 ghost use Rattle.table.specs.Carrying.{control_change, changed_at, changed_all, module_passes, controlled, obeyed, error_noted, admitted, drive_of, blocked_switch, carried, carried_answer};
 
 use crate::change::Change;
 use crate::order::Order;
 use crate::reading::placed_channels;
-use crate::records::{Channel, Table};
+use crate::records::Table;
 use registers::ModuleFault;
 use values::speed_admitted;
 
@@ -32,14 +32,6 @@ fn control_change(word: u16) -> Change
             on: word & 0x0008 != 0,
         }
     }
-}
-
-fn any_refuses_switch(channels: &[Channel], module_passes: bool) -> bool
-    ensures { result ≡ list_any (switch_refused module_passes) channels.now }
-{
-    channels
-        .iter()
-        .any(|channel| channel.refuses_switch(module_passes))
 }
 
 impl Order {
@@ -116,6 +108,15 @@ impl Table {
         }
     }
 
+    fn any_refuses_switch(&self, count: usize) -> bool
+        ensures { result ≡ list_any (switch_refused (module_passes self.now)) (placed count self.now) }
+    {
+        let module_passes = self.module_passes();
+        self.placed(count)
+            .iter()
+            .any(|channel| channel.refuses_switch(module_passes))
+    }
+
     // A blocked channel that is off would be switched on.
     fn blocks(&self, order: Order, count: usize) -> bool
         ensures { result ≡ blocked_switch count self.now (subject_of order) (switching_of order) }
@@ -124,10 +125,7 @@ impl Table {
             Order::ChannelControl { channel, word } => {
                 word & 0x0020 == 0 && word & 0x0008 != 0 && self.refuses_switch(channel)
             }
-            Order::GroupSwitch { data } => {
-                data == 1
-                    && any_refuses_switch(&self.channels[0..count.min(12)], self.module_passes())
-            }
+            Order::GroupSwitch { data } => data == 1 && self.any_refuses_switch(count),
             _ => false,
         }
     }

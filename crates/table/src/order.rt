@@ -16,6 +16,7 @@ pub enum Order {
     ClearCollectedEvents { word: u16 },
     CollectedEventMask { word: u16 },
     RampSpeed { percent: f32 },
+    // Three cases and not one with a Change: no write clears one channel by doCLEAR or makes only an input error.
     ChannelControl { channel: usize, word: u16 },
     ClearChannelEvents { channel: usize, word: u16 },
     ChannelEventMask { channel: usize, word: u16 },

@@ -1,7 +1,7 @@
 // What the module's registers read.
 ghost use Rattle.std.specs.Prelude.{◌≡◌};
 ghost use Rattle.registers.specs.Map.{WordPlaced, ValuePlaced};
-ghost use Rattle.table.specs.Reads.{any_ramping, any_alarmed, temperature_good, all_good, event_active, quiet, still, module_status, placed_channels, module_word, module_bits, group_bits, word_read, bits_read, read_answer};
+ghost use Rattle.table.specs.Reads.{placed, temperature_good, all_good, event_active, quiet, still, module_status, placed_channels, module_word, module_bits, group_bits, word_read, bits_read, read_answer};
 
 use crate::channel::bit;
 use crate::records::{Channel, Conditions, Groups, Table};
@@ -10,18 +10,6 @@ use registers::{
 };
 use std::num::f32_to_bits_with_nan;
 use values::{Words, at_most};
-
-fn any_ramping(channels: &[Channel]) -> bool
-    ensures { result ≡ any_ramping channels.now }
-{
-    channels.iter().any(|channel| channel.ramping)
-}
-
-fn any_alarmed(channels: &[Channel]) -> bool
-    ensures { result ≡ any_alarmed channels.now }
-{
-    channels.iter().any(|channel| channel.alarmed())
-}
 
 // A bit for each of the first `count` channels, 12 at most.
 pub(crate) fn placed_channels(count: usize) -> u16
@@ -60,6 +48,13 @@ impl Groups {
 }
 
 impl Table {
+    // The records of the first `count` channels, 12 at most.
+    pub(crate) fn placed(&self, count: usize) -> &[Channel]
+        ensures { result.now ≡ placed count self.now }
+    {
+        &self.channels[..count.min(12)]
+    }
+
     fn event_active(&self) -> bool
         ensures { result ≡ event_active self.now }
     {
@@ -69,13 +64,13 @@ impl Table {
     fn quiet(&self, count: usize) -> bool
         ensures { result ≡ quiet count self.now }
     {
-        !any_alarmed(&self.channels[0..count.min(12)])
+        !self.placed(count).iter().any(|channel| channel.alarmed())
     }
 
     fn still(&self, count: usize) -> bool
         ensures { result ≡ still count self.now }
     {
-        !any_ramping(&self.channels[0..count.min(12)])
+        !self.placed(count).iter().any(|channel| channel.ramping)
     }
 
     // ModuleStatus of a module with `count` channels, worked out from the rest of the table.

@@ -81,6 +81,7 @@ pub struct Groups {
 #[derive(Clone, Copy, Debug, PartialEq)]
 pub struct Table {
     pub model: Model,
+    // always twelve, in fixed memory; how many are placed is asked from the stage at each call
     pub channels: [Channel; 12],
     pub held: Option<Half>,
     pub kill_enable: bool,

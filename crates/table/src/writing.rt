@@ -80,7 +80,7 @@ impl Table {
         ensures { self.new ≡ collected count self.old }
     {
         if any_passes(&self.channels) {
-            self.channel_events |= passing_word(&self.channels[0..count.min(12)]);
+            self.channel_events |= passing_word(self.placed(count));
         }
     }
 

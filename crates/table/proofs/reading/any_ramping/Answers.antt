@@ -1,8 +1,0 @@
-use Rattle.std.proofs.Common.{rules, tests}
-use Rattle.std.proofs.lemmas.Iterator.{YieldsList-from_slice}
-use Rattle.std.proofs.lemmas.Iterator.Search.{any_from_yields_List}
-use Rattle.table.specs.declared.records.Channel.{Channel}
-use Rattle.table.proofs.reading.any_ramping.Goals as goal
-
-pub returns : goal.returns
-returns c = any_from_yields_List (λ (x : Channel). x.ramping) _ _ _ c.any.ensures.ran (YieldsList-from_slice c.args.channels.now cc) (λ x b q k. search (rules, tests))
