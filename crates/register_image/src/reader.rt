@@ -42,7 +42,7 @@ impl<'a> ImageReader<'a> {
         }
         check_length(self.bytes.len())?;
         let at = offset as usize;
-        Ok(self.bytes[at] as u16 * 256 + self.bytes[at + 1] as u16)
+        Ok(u16::from_be_bytes([self.bytes[at], self.bytes[at + 1]]))
     }
 
     // The block of a channel that PlacedChannels has: bit k of that word belongs to channel k.

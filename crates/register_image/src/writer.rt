@@ -20,8 +20,7 @@ fn put_word(out: &mut [u8], at: usize, word: u16)
     requires { at + 1 < length out.old }
     ensures { out.new ≡ with_word out.old at word }
 {
-    out[at] = (word / 256) as u8;
-    out[at + 1] = (word % 256) as u8;
+    out[at..at + 2].copy_from_slice(&word.to_be_bytes());
 }
 
 // A buffer of another length is left as it is.
@@ -31,8 +30,7 @@ pub fn write_image<S: Stage>(module: &Module<S>, out: &mut [u8]) -> Result<(), M
     ensures back { length out.old ≡ 1024 → Tells «module».now out.new }
 {
     check_length(out.len())?;
-    for place in 0..512u16 {
-        let offset = 2 * place;
+    for offset in (0..0x400u16).step_by(2) {
         let word = image_word(module, offset);
         put_word(out, offset as usize, word);
     }

@@ -55,8 +55,7 @@ pub fn run<S: Stage + Drop>(
 {
     let mut replies = Vec::with_capacity(heap, calls.len())?;
     let mut module = Module::new(stage, model);
-    let mut rest = calls.into_iter();
-    while let Some(call) = rest.next() {
+    for call in calls {
         replies.push_reserved(reply(&mut module, call));
     }
     Ok(Outcome { module, replies })
