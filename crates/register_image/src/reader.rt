@@ -3,7 +3,7 @@ ghost use Rattle.std.specs.Prelude.{◌≡◌};
 ghost use Rattle.register_image.specs.Image.{reader_bytes, reader_answer, reader_word, block_told, block_answer};
 
 use crate::check_length;
-use registers::ModuleFault;
+use registers::{ModuleFault, check_offset};
 use stage::MOST_CHANNELS;
 
 // The offset of PlacedChannels.
@@ -37,9 +37,7 @@ impl<'a> ImageReader<'a> {
     pub fn word(&self, offset: u16) -> Result<u16, ModuleFault>
         ensures { result ≡ reader_word self.now.bytes.now offset }
     {
-        if offset % 2 == 1 || offset > 0x3FE {
-            return Err(ModuleFault::Outside { offset });
-        }
+        check_offset(offset)?;
         check_length(self.bytes.len())?;
         let at = offset as usize;
         Ok(u16::from_be_bytes([self.bytes[at], self.bytes[at + 1]]))
