@@ -1,9 +1,9 @@
 -- Lemmas on the definitions of specs/Levels.
-use Rattle.std.specs.Prelude.{◌≡◌, ℕ, zero, suc, ◌<◌, ◌≤◌, true, List, [], ◌∷◌, length, take, Ok, slice_index, slice_set, refl}
+use Rattle.std.specs.Prelude.{◌≡◌, ℕ, zero, suc, ◌<◌, ◌≤◌, true, List, [], ◌∷◌, length, take, Ok, slice_set, refl}
 use Rattle.std.proofs.Common.{sym, ap, ◌∙◌}
-use Rattle.std.proofs.lemmas.List.{length-take-le, get_or-take}
+use Rattle.std.proofs.lemmas.List.{length-take-le}
 use Rattle.std.proofs.lemmas.Bool.{lt-ltb, le-leb, and_parts, and_from, leb-true, ltb-true, cond-true}
-use Rattle.stage.specs.Levels.{highest_level, AtMost, drivable, level_answer, drive_answer, driven}
+use Rattle.stage.specs.Levels.{highest_level, AtMost, drivable, drive_answer, driven}
 
 -- channel k of the levels ls was driven to the level x, and they became ms
 pub record DrivenTo (ls : List ℕ) (k x : ℕ) (ms : List ℕ) : Type 0 where
@@ -33,10 +33,6 @@ module _ (ls : List ℕ) (k x : ℕ) where
   pub driven_can : k < length ls → x ≤ highest_level → driven ls k x ≡ slice_set ls k x
   driven_can h l = cond-true _ _ _ (drivable_can h l)
 
-module _ (ls : List ℕ) (k : ℕ) where
-  pub level_answer_can : k < length ls → level_answer ls k ≡ Ok (slice_index ls k)
-  level_answer_can h = cond-true _ _ _ (lt-ltb _ _ h)
-
 module _ (n k x : ℕ) (can : true ≡ drivable n k x) where
   pub channel_below : k < n
   channel_below = ltb-true _ _ (and_parts _ _ (sym can)).0
@@ -46,9 +42,6 @@ module _ (n k x : ℕ) (can : true ≡ drivable n k x) where
 
 -- a stage whose levels are the first n of xs
 module _ (n : ℕ) (xs : List ℕ) (k : ℕ) (fits : n ≤ length xs) where
-  pub first_level : k < n → Ok (slice_index xs k) ≡ level_answer (take n xs) k
-  first_level h = sym (level_answer_can (take n xs) k (rw (length-take-le n xs fits) h) ∙ ap Ok (get_or-take n xs k 0 h))
-
   pub first_driven : (x : ℕ) → true ≡ drivable n k x → DrivenTo (take n xs) k x (take n (slice_set xs k x))
   first_driven x can =
       let h : k < length (take n xs) = rw (length-take-le n xs fits) (channel_below n k x can) in
