@@ -7,6 +7,7 @@ ghost use Rattle.table.specs.Reads.{channel_of, placed};
 ghost use Rattle.table.specs.Carrying.{control_change, changed_at, changed_all, module_passes, controlled, obeyed, error_noted, admitted, drive_of, blocked_switch, carried, carried_answer};
 
 use crate::change::Change;
+use crate::channel::passes;
 use crate::order::Order;
 use crate::reading::placed_channels;
 use crate::records::Table;
@@ -52,7 +53,7 @@ impl Table {
     pub(crate) fn module_passes(&self) -> bool
         ensures { result ≡ module_passes self.now }
     {
-        self.events & self.mask != 0
+        passes(self.events, self.mask)
     }
 
     // One channel is changed, if it has a record.

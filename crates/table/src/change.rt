@@ -2,7 +2,7 @@
 ghost use Rattle.std.specs.Prelude.{◌≡◌};
 ghost use Rattle.table.specs.Changes.{changed, emergency_off, switched, event_passes, blocked, switch_refused};
 
-use crate::channel::bit;
+use crate::channel::{bit, passes};
 use crate::records::Channel;
 use crate::setting::Setting;
 
@@ -78,6 +78,6 @@ impl Channel {
     pub fn event_passes(&self) -> bool
         ensures { result ≡ event_passes self.now }
     {
-        self.events & self.mask != 0
+        passes(self.events, self.mask)
     }
 }

@@ -3,7 +3,7 @@ ghost use Rattle.std.specs.Prelude.{◌≡◌};
 ghost use Rattle.registers.specs.Map.{WordPlaced, ValuePlaced};
 ghost use Rattle.table.specs.Reads.{placed, temperature_good, all_good, event_active, quiet, still, module_status, placed_channels, module_word, module_bits, group_bits, word_read, bits_read, read_answer};
 
-use crate::channel::bit;
+use crate::channel::{bit, passes};
 use crate::records::{Channel, Conditions, Groups, Table};
 use registers::{
     GroupValue, ModuleFault, ModuleValue, ModuleWord, Place, ValueRegister, WordRegister, locate,
@@ -58,7 +58,7 @@ impl Table {
     fn event_active(&self) -> bool
         ensures { result ≡ event_active self.now }
     {
-        self.events & self.mask != 0 || self.channel_events & self.channel_mask != 0
+        passes(self.events, self.mask) || passes(self.channel_events, self.channel_mask)
     }
 
     fn quiet(&self, count: usize) -> bool
