@@ -9,7 +9,7 @@ use values::{
     set_steps, speed_admitted, stored_maximum, voltage_admitted,
 };
 
-#[derive(Clone, Copy)]
+#[derive(Clone, Copy, PartialEq, Debug)]
 pub enum Figure {
     Join {
         words: Words,

@@ -5,7 +5,7 @@ ghost use Rattle.figures.specs.Verdicts.{Judged};
 use crate::figure::{Figure, Outcome};
 
 // The figure and what is expected of it.
-#[derive(Clone, Copy)]
+#[derive(Clone, Copy, PartialEq, Debug)]
 pub struct Vector {
     pub figure: Figure,
     pub expected: Outcome,

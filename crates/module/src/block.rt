@@ -21,7 +21,7 @@ pub struct Access {
 }
 
 // The index of the refused access, and the module's fault whole.
-#[derive(Clone, Copy)]
+#[derive(Clone, Copy, PartialEq, Eq, Debug)]
 pub struct BlockFault {
     pub index: usize,
     pub fault: ModuleFault,

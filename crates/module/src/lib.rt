@@ -116,6 +116,7 @@ fn drive_to_zero<S: Stage>(stage: &mut S) -> Result<(), StageFault>
     ensures answer { result ≡ Ok tt }
     ensures state { S.levels stage.new ≡ zeros (S.levels stage.old) }
 {
+    // A stage knows its channels by number, so there is no list to go over.
     for channel in 0..stage.count() {
         stage.drive(channel, 0)?;
     }

@@ -14,13 +14,13 @@ const FIRST_CHANNEL: usize = 0x60;
 
 const CHANNEL_BYTES: usize = 0x30;
 
-#[derive(Clone, Copy)]
+#[derive(Clone, Copy, PartialEq, Eq, Debug)]
 pub struct ImageReader<'a> {
     bytes: &'a [u8],
 }
 
 // A channel's block as a part of the image, with the offset where it begins.
-#[derive(Clone, Copy)]
+#[derive(Clone, Copy, PartialEq, Eq, Debug)]
 pub struct ChannelBlock<'a> {
     pub offset: u16,
     pub bytes: &'a [u8],

@@ -20,7 +20,7 @@ pub enum StageKind {
 }
 
 // The module of a script, with the count of channels as it is taken.
-#[derive(Clone, Copy)]
+#[derive(Clone, Copy, PartialEq, Eq, Debug)]
 pub struct Setup {
     pub model: Model,
     pub stage: StageKind,
@@ -28,7 +28,7 @@ pub struct Setup {
 }
 
 // A block or a round is followed by so many lines of its own.
-#[derive(Clone, Copy)]
+#[derive(Clone, Copy, PartialEq, Debug)]
 pub enum Command {
     Module(Setup),
     Access(Access),
@@ -41,7 +41,7 @@ pub enum Command {
     },
 }
 
-#[derive(Clone, Copy)]
+#[derive(Clone, Copy, PartialEq, Eq, Debug)]
 enum Keyword {
     Module,
     Read,

@@ -14,7 +14,7 @@ use std::alloc::{AllocError, Global};
 use values::Model;
 
 // What is listed of a call besides its answer.
-#[derive(Clone, Copy)]
+#[derive(Clone, Copy, PartialEq, Eq, Debug)]
 pub enum Echo {
     Read { offset: u16 },
     Write { offset: u16, word: u16 },

@@ -83,6 +83,7 @@ impl Reader {
         }
     }
 
+    // No `From`: both types are those of other crates.
     fn call_of(access: Access) -> Call
         ensures { asked result ≡ asked_by access }
     {

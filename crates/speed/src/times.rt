@@ -3,7 +3,7 @@ use std::num::nearest_usize_to_f64;
 use std::time::Instant;
 use std::{fmt, io};
 
-#[derive(Clone, Copy)]
+#[derive(Clone, Copy, PartialEq, Debug)]
 pub struct Times {
     pub read: f64,
     pub write: f64,

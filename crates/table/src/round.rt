@@ -92,6 +92,7 @@ fn moved_level(level: u32, goal: u32, ramp_step: u32, blocked: bool) -> u32
     }
 }
 
+// A reading is the channel's and a pass the round's, so the two are not one parameter.
 impl Channel {
     fn excess(&self, reading: &Reading, pass: &Pass) -> Excess
         ensures { result ≡ excess_of pass.now self.now reading.now }
@@ -144,6 +145,7 @@ impl Channel {
         }
     }
 
+    // A reading is plain, two numbers and the line, so its amounts are no record that could be copied whole.
     fn store_reading(&mut self, reading: &Reading)
         ensures { self.new ≡ Round.with_reading self.old reading.now }
     {

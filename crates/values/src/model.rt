@@ -47,7 +47,7 @@ impl fmt::Display for UnknownModel {
 
 impl Error for UnknownModel {}
 
-// The two nominal values differ in their unit, and each is one call.
+// Voltage and current have each a table and a unit of their own: one function of both would answer a pair that no caller wants.
 impl Model {
     pub fn volts(self) -> u32
         ensures { result ≡ nominal_volts self }
