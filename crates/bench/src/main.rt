@@ -5,39 +5,21 @@ use script::{ScriptFault, parse, perform, text_of};
 use std::alloc::AllocError;
 use std::io::{BufWriter, Read, Write};
 use std::process::ExitCode;
-use std::{env, fmt, fs, io};
+use std::{env, fs, io};
+use thiserror::Error;
 
-#[derive(Drop)]
+#[derive(Debug, Drop, Error)]
 enum Failure {
+    #[error("usage: bench [SCRIPT]")]
     Arguments,
-    Script(ScriptFault),
-    Memory,
+    #[error("{0}")]
+    Script(#[from] ScriptFault),
+    #[error("not enough memory")]
+    Memory(#[from] AllocError),
+    #[error("cannot read the script: {0}")]
     Input(io::Error),
+    #[error("cannot write: {0}")]
     Output(io::Error),
-}
-
-impl From<ScriptFault> for Failure {
-    fn from(fault: ScriptFault) -> Failure {
-        Failure::Script(fault)
-    }
-}
-
-impl From<AllocError> for Failure {
-    fn from(_error: AllocError) -> Failure {
-        Failure::Memory
-    }
-}
-
-impl fmt::Display for Failure {
-    fn fmt<W: fmt::Write>(&self, f: &mut fmt::Formatter<W>) -> fmt::Result {
-        match self {
-            Failure::Arguments => f.write_str("usage: bench [SCRIPT]"),
-            Failure::Script(fault) => write!(f, "{fault}"),
-            Failure::Memory => f.write_str("not enough memory"),
-            Failure::Input(error) => write!(f, "cannot read the script: {error}"),
-            Failure::Output(error) => write!(f, "cannot write: {error}"),
-        }
-    }
 }
 
 fn read_input(rt: &HostRuntime) -> io::Result<Vec<u8>> {
@@ -48,20 +30,14 @@ fn read_input(rt: &HostRuntime) -> io::Result<Vec<u8>> {
 
 // The script that the arguments ask for.
 fn read_script(rt: &HostRuntime) -> Result<Vec<u8>, Failure> {
-    let mut args = match env::args(rt) {
-        Ok(args) => args,
-        Err(error) => return Err(Failure::Input(error)),
-    };
+    let mut args = env::args(rt).map_err(Failure::Input)?;
     let _name = args.next();
     let read = match (args.next(), args.next()) {
         (None, _) => read_input(rt),
         (Some(path), None) => fs::read(rt, path.as_str()),
         _ => return Err(Failure::Arguments),
     };
-    match read {
-        Ok(bytes) => Ok(bytes),
-        Err(error) => Err(Failure::Input(error)),
-    }
+    read.map_err(Failure::Input)
 }
 
 fn bench(rt: &HostRuntime) -> Result<(), Failure> {
@@ -70,10 +46,7 @@ fn bench(rt: &HostRuntime) -> Result<(), Failure> {
     let listing = perform(rt.alloc(), script)?;
     let mut out = BufWriter::new(rt.alloc(), rt.stdout()).map_err(Failure::Output)?;
     let written = write!(out, "{listing}");
-    match (written, out.flush()) {
-        (Ok(()), Ok(())) => Ok(()),
-        (Err(error), _) | (Ok(()), Err(error)) => Err(Failure::Output(error)),
-    }
+    written.and(out.flush()).map_err(Failure::Output)
 }
 
 fn main(rt: HostRuntime) -> ExitCode {

@@ -14,7 +14,7 @@ abbrev pub pattern_of : Float → Outcome
 pattern_of x = Pattern (to_bits binary32 x)
 
 abbrev pub outcome_of : Figure → Outcome
-outcome_of (figure.Join u l) = pattern_of (value_of u l)
+outcome_of (figure.Join w) = pattern_of (value_of w.upper w.lower)
 outcome_of (figure.UpperWord x) = Word (upper_word x)
 outcome_of (figure.LowerWord x) = Word (lower_word x)
 outcome_of (figure.NominalVoltage m) = pattern_of (nominal_voltage m)

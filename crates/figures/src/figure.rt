@@ -5,15 +5,14 @@ ghost use Rattle.figures.specs.Outcomes.{outcome_of, pattern_of};
 use std::fmt;
 use std::num::f32_to_bits_with_nan;
 use values::{
-    Model, at_most, current_admitted, join, limit, limit_steps, lower_word, out_of_bounds,
-    ramp_step, set_steps, speed_admitted, stored_maximum, upper_word, voltage_admitted,
+    Model, Words, at_most, current_admitted, limit, limit_steps, out_of_bounds, ramp_step,
+    set_steps, speed_admitted, stored_maximum, voltage_admitted,
 };
 
-#[derive(Clone, Copy)]
+#[derive(Clone, Copy, PartialEq, Debug)]
 pub enum Figure {
     Join {
-        upper: u16,
-        lower: u16,
+        words: Words,
     },
     UpperWord {
         value: f32,
@@ -66,7 +65,7 @@ pub enum Figure {
     },
 }
 
-#[derive(Clone, Copy)]
+#[derive(Clone, Copy, PartialEq, Eq, Debug)]
 pub enum Outcome {
     // The 32 bits of a value; 7FC00000 where it is not a number.
     Pattern(u32),
@@ -80,9 +79,9 @@ impl Figure {
         ensures { result ≡ outcome_of self }
     {
         match self {
-            Figure::Join { upper, lower } => pattern_of(join(upper, lower)),
-            Figure::UpperWord { value } => Outcome::Word(upper_word(value)),
-            Figure::LowerWord { value } => Outcome::Word(lower_word(value)),
+            Figure::Join { words } => pattern_of(f32::from(words)),
+            Figure::UpperWord { value } => Outcome::Word(Words::from(value).upper),
+            Figure::LowerWord { value } => Outcome::Word(Words::from(value).lower),
             Figure::NominalVoltage { model } => pattern_of(model.nominal_voltage()),
             Figure::NominalCurrent { model } => pattern_of(model.nominal_current()),
             Figure::SetSteps { model, volts } => Outcome::Count(set_steps(volts, model)),
@@ -119,8 +118,8 @@ impl fmt::Display for Outcome {
             Outcome::Pattern(bits) => write!(f, "{bits:08X}"),
             Outcome::Word(word) => write!(f, "{word:04X}"),
             Outcome::Count(count) => write!(f, "{count}"),
-            Outcome::Truth(true) => write!(f, "yes"),
-            Outcome::Truth(false) => write!(f, "no"),
+            Outcome::Truth(true) => f.write_str("yes"),
+            Outcome::Truth(false) => f.write_str("no"),
         }
     }
 }

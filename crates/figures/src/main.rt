@@ -11,7 +11,6 @@ use parse::parse_line;
 use std::io;
 use std::io::{BufRead, BufReader, BufWriter, Write};
 use tally::Tally;
-use verdict::Verdict;
 
 fn is_figure(line: &str) -> bool {
     !line.trim().is_empty() && !line.starts_with('#')
@@ -23,20 +22,16 @@ fn compare<W: Write>(out: &mut W, line: &str) -> io::Result<bool> {
         writeln!(out, "WRONG {line}: not a figure")?;
         return Ok(false);
     };
-    match vector.verdict() {
-        Verdict::Right => {
-            writeln!(out, "ok {line}")?;
-            Ok(true)
-        }
-        Verdict::Wrong(outcome) => {
-            writeln!(out, "WRONG {line}: {outcome}")?;
-            Ok(false)
-        }
+    let verdict = vector.verdict();
+    match verdict {
+        Ok(()) => writeln!(out, "ok {line}")?,
+        Err(outcome) => writeln!(out, "WRONG {line}: {outcome}")?,
     }
+    Ok(verdict.is_ok())
 }
 
 fn main(rt: HostRuntime) -> io::Result<()> {
-    let mut tally = Tally::new();
+    let mut tally = Tally::default();
     let mut out = BufWriter::new(rt.alloc(), rt.stdout())?;
     for line in BufReader::new(rt.alloc(), rt.stdin())?.lines(rt.alloc()) {
         let line = line?;

@@ -4,7 +4,7 @@ use crate::figure::{Figure, Outcome};
 use crate::verdict::Vector;
 use std::num::f32_from_bits_with_nan;
 use std::str::SplitWhitespace;
-use values::Model;
+use values::{Model, Words};
 
 // None if it is no such line.
 pub(crate) fn parse_line(line: &str) -> Option<Vector> {
@@ -12,18 +12,22 @@ pub(crate) fn parse_line(line: &str) -> Option<Vector> {
     let name = words.next()?;
     let figure = parse_figure(name, &mut words)?;
     let expected = parse_outcome(figure, words.next()?)?;
-    match words.next() {
-        None => Some(Vector { figure, expected }),
-        Some(_) => None,
-    }
+    words
+        .next()
+        .is_none()
+        .then_some(Vector { figure, expected })
 }
+
+// One function for each kind of answer: in one match they would be longer than a function may be.
 
 // The calls that answer a value or a word.
 fn parse_figure(name: &str, words: &mut SplitWhitespace<'_>) -> Option<Figure> {
     match name {
         "join" => Some(Figure::Join {
-            upper: parse_word(words)?,
-            lower: parse_word(words)?,
+            words: Words {
+                upper: parse_word(words)?,
+                lower: parse_word(words)?,
+            },
         }),
         "upper_word" => Some(Figure::UpperWord {
             value: parse_value(words)?,
@@ -92,6 +96,8 @@ fn parse_test(name: &str, words: &mut SplitWhitespace<'_>) -> Option<Figure> {
     }
 }
 
+// Each width is read by its own type's function, which is no method of a trait.
+
 fn parse_word(words: &mut SplitWhitespace<'_>) -> Option<u16> {
     u16::from_str_radix(words.next()?, 16).ok()
 }
@@ -102,28 +108,16 @@ fn parse_value(words: &mut SplitWhitespace<'_>) -> Option<f32> {
 }
 
 fn parse_model(words: &mut SplitWhitespace<'_>) -> Option<Model> {
-    Model::with_volts(words.next()?.parse::<u32>().ok()?)
+    Model::try_from(words.next()?.parse::<u32>().ok()?).ok()
 }
 
 // What is expected is of the kind that the figure answers.
 fn parse_outcome(figure: Figure, text: &str) -> Option<Outcome> {
-    match figure {
-        Figure::Join { .. }
-        | Figure::NominalVoltage { .. }
-        | Figure::NominalCurrent { .. }
-        | Figure::StoredMaximum { .. }
-        | Figure::Limit { .. } => Some(Outcome::Pattern(u32::from_str_radix(text, 16).ok()?)),
-        Figure::UpperWord { .. } | Figure::LowerWord { .. } => {
-            Some(Outcome::Word(u16::from_str_radix(text, 16).ok()?))
-        }
-        Figure::SetSteps { .. } | Figure::LimitSteps { .. } | Figure::RampStep { .. } => {
-            Some(Outcome::Count(text.parse::<u32>().ok()?))
-        }
-        Figure::AtMost { .. }
-        | Figure::VoltageAdmitted { .. }
-        | Figure::CurrentAdmitted { .. }
-        | Figure::SpeedAdmitted { .. }
-        | Figure::OutOfBounds { .. } => match text {
+    match figure.outcome() {
+        Outcome::Pattern(_) => u32::from_str_radix(text, 16).ok().map(Outcome::Pattern),
+        Outcome::Word(_) => u16::from_str_radix(text, 16).ok().map(Outcome::Word),
+        Outcome::Count(_) => text.parse::<u32>().ok().map(Outcome::Count),
+        Outcome::Truth(_) => match text {
             "yes" => Some(Outcome::Truth(true)),
             "no" => Some(Outcome::Truth(false)),
             _ => None,

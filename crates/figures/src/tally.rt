@@ -4,19 +4,13 @@ ghost use Rattle.figures.specs.Tallies.{counted};
 
 use std::fmt;
 
-#[derive(Clone, Copy)]
+#[derive(Clone, Copy, Default)]
 pub struct Tally {
     right: u64,
     wrong: u64,
 }
 
 impl Tally {
-    pub(crate) fn new() -> Tally
-        ensures { (result.right ≡ 0) × (result.wrong ≡ 0) }
-    {
-        Tally { right: 0, wrong: 0 }
-    }
-
     pub(crate) fn count(&mut self, right: bool)
         ensures { self.new ≡ counted self.old right }
     {
@@ -31,8 +25,10 @@ impl Tally {
 impl fmt::Display for Tally {
     fn fmt<W: fmt::Write>(&self, f: &mut fmt::Formatter<W>) -> fmt::Result {
         let all = self.right.saturating_add(self.wrong);
-        let right = self.right;
-        let wrong = self.wrong;
-        write!(f, "{all} figures: {right} right, {wrong} wrong")
+        write!(
+            f,
+            "{all} figures: {} right, {} wrong",
+            self.right, self.wrong
+        )
     }
 }

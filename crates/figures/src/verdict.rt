@@ -1,43 +1,26 @@
 // Compares an outcome with the one that is expected.
 ghost use Rattle.figures.specs.Outcomes.{outcome_of};
-ghost use Rattle.figures.specs.Verdicts.{Same, Judged};
+ghost use Rattle.figures.specs.Verdicts.{Judged};
 
 use crate::figure::{Figure, Outcome};
 
-#[derive(Clone, Copy)]
-pub enum Verdict {
-    Right,
-    Wrong(Outcome),
-}
-
 // The figure and what is expected of it.
-#[derive(Clone, Copy)]
+#[derive(Clone, Copy, PartialEq, Debug)]
 pub struct Vector {
     pub figure: Figure,
     pub expected: Outcome,
 }
 
 impl Vector {
-    pub(crate) fn verdict(self) -> Verdict
+    // What came, where it is not what is expected.
+    pub(crate) fn verdict(self) -> Result<(), Outcome>
         ensures { Judged (outcome_of self.figure) self.expected result }
     {
         let outcome = self.figure.outcome();
-        if agree(outcome, self.expected) {
-            Verdict::Right
+        if outcome == self.expected {
+            Ok(())
         } else {
-            Verdict::Wrong(outcome)
+            Err(outcome)
         }
-    }
-}
-
-fn agree(outcome: Outcome, expected: Outcome) -> bool
-    ensures { Same outcome expected result }
-{
-    match (outcome, expected) {
-        (Outcome::Pattern(came), Outcome::Pattern(wanted)) => came == wanted,
-        (Outcome::Word(came), Outcome::Word(wanted)) => came == wanted,
-        (Outcome::Count(came), Outcome::Count(wanted)) => came == wanted,
-        (Outcome::Truth(came), Outcome::Truth(wanted)) => came == wanted,
-        _ => false,
     }
 }

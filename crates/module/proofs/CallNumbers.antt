@@ -6,8 +6,7 @@ use Rattle.registers.specs.declared.place.Place.TheVariants as place
 use Rattle.registers.specs.Faults.{refusal_1}
 use Rattle.registers.specs.Map.{outside, place_at, filled, located}
 use Rattle.registers.specs.Rights.{writable}
-use Rattle.table.specs.declared.records.Held.{Held}
-use Rattle.table.specs.declared.records.Held.TheVariants.{Nothing, Upper}
+use Rattle.table.specs.declared.records.Half.{Half}
 use Rattle.table.specs.declared.records.Table.{Table}
 use Rattle.table.specs.declared.carrying.Drive.{Drive}
 use Rattle.table.specs.declared.order.Order.{Order}
@@ -39,16 +38,16 @@ of_carries : (o : ℕ) (x : Option Order) → Numbers 1 6 (carries o x)
 of_carries o None = (omega arith, omega arith)
 of_carries o (Some x) = tt
 
-of_completes : (h : Held) (o : ℕ) (x : ℕ → Option Order) → Numbers 1 6 (completes h o x)
-of_completes Nothing o x = (omega arith, omega arith)
-of_completes (Upper a u) o x = either (eqb a o) _ _ 1 6 (of_carries o (x u)) (omega arith, omega arith)
+of_completes : (h : Option Half) (o : ℕ) (x : ℕ → Option Order) → Numbers 1 6 (completes h o x)
+of_completes None o x = (omega arith, omega arith)
+of_completes (Some h) o x = either (eqb h.awaited o) _ _ 1 6 (of_carries o (x h.word)) (omega arith, omega arith)
 
-of_place : (h : Held) (p : Place) (o w : ℕ) → Numbers 1 6 (request_at h p o w)
+of_place : (h : Option Half) (p : Place) (o w : ℕ) → Numbers 1 6 (request_at h p o w)
 of_place h (place.Word r) o w = of_carries o (word_order r w)
 of_place h (place.Upper r) o w = tt
 of_place h (place.Lower r) o w = of_completes h o (λ u. value_order r u w)
 
-of_located : (h : Held) (x : Result Place ModuleFault) (o w : ℕ) → Numbers 1 6 x → Numbers 1 6 (request_in h x o w)
+of_located : (h : Option Half) (x : Result Place ModuleFault) (o w : ℕ) → Numbers 1 6 x → Numbers 1 6 (request_in h x o w)
 of_located h (Ok p) o w k = either (writable p) _ _ 1 6 (of_place h p o w) (omega arith, omega arith)
 of_located h (Err f) o w k = k
 
@@ -62,7 +61,7 @@ of_order n t x o =
     (omega arith, omega arith)
 
 of_served : (n : ℕ) (t : Table) (o : ℕ) (q : Result Request ModuleFault) → Numbers 1 6 q → Numbers 1 6 (served_answer n t o q)
-of_served n t o (Ok request.Hold) h = tt
+of_served n t o (Ok (request.Hold u)) h = tt
 of_served n t o (Ok (request.Carry x)) h = of_order n (released t) x o
 of_served n t o (Err f) h = h
 

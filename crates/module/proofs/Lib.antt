@@ -5,7 +5,6 @@ pub mod Listing
 pub mod RoundLaws
 pub mod RoundLawsExamples
 pub mod RoundLawsSteps
-pub mod Rounding
 pub mod WriteLawsHalves
 pub mod WriteLawsOrders
 pub mod WriteLawsOthers
@@ -14,5 +13,3 @@ pub mod WriteLawsRequests
 pub mod WriteLawsSwitching
 pub mod WriteLawsValues
 pub mod WriteLawsWhole
-pub mod Writing
-pub mod Zeroing

@@ -1,7 +1,6 @@
 -- The laws of a round, for each channel.
-use Rattle.std.proofs.Common.{◌≡◌, ℕ, ◌<◌, Bool, List, length, Ok, Err, Result, sym, refl, ◌∙◌, subst, arith}
+use Rattle.std.proofs.Common.{◌≡◌, ℕ, ◌<◌, Bool, List, length, sym, ◌∙◌, subst, arith}
 use Rattle.std.proofs.lemmas.Bool.{eq-eqb, cond-true}
-use Rattle.registers.specs.declared.fault.ModuleFault.{ModuleFault}
 use Rattle.table.specs.declared.records.Channel.{Channel}
 use Rattle.table.specs.declared.records.Conditions.{Conditions}
 use Rattle.table.specs.declared.round.Pass.{Pass}
@@ -73,17 +72,3 @@ module _ (regulates : Bool) (s : State) (x : Conditions) (rs : List Reading) whe
 
       pub round_stays : EventsStay s u
       round_stays = subst (EventsStay s) is_accepted accepted_stays
-
--- a refused round changes nothing
-pub refused_stays : (s : State) → EventsStay s s
-refused_stays s = record {
-  module_events = kept_self s.table.events;
-  collected_events = kept_self s.table.channel_events;
-  channel_events = λ k h. kept_self (channel_of s.table k).events;
-  kills = λ k h e. e;
-  channels = λ k h. h;
-  half = refl;
-}
-
-pub refused_not_accepted : (f : ModuleFault) → ◌≡◌ {A = Result (Unit {0}) ModuleFault} (Err f) (Ok tt) → ⊥
-refused_not_accepted f e = let z : ◌≡◌ {A = ℕ} 0 1 = cc in omega arith

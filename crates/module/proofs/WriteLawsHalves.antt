@@ -1,5 +1,5 @@
 -- An upper half alone, and what is held after each write.
-use Rattle.std.proofs.Common.{◌≡◌, ℕ, ◌+◌, ◌/◌, ◌%◌, Ok, Err, Result, refl, ap, ◌∙◌}
+use Rattle.std.proofs.Common.{◌≡◌, ℕ, ◌+◌, ◌/◌, ◌%◌, Some, None, Option, Ok, Err, Result, refl, ap, ◌∙◌}
 use Rattle.registers.specs.declared.fault.ModuleFault.{ModuleFault}
 use Rattle.registers.specs.declared.place.ModuleWord.{ModuleWord}
 use Rattle.registers.specs.declared.place.ModuleWord.TheVariants as mw
@@ -11,12 +11,11 @@ use Rattle.registers.specs.declared.place.ValueRegister.TheVariants as vr
 use Rattle.registers.specs.declared.place.Place.{Place}
 use Rattle.registers.specs.declared.place.Place.TheVariants as place
 use Rattle.registers.specs.Map.{located}
-use Rattle.table.specs.declared.records.Held.{Held}
-use Rattle.table.specs.declared.records.Held.TheVariants.{Nothing, Upper}
+use Rattle.table.specs.declared.records.Half.{Half}
 use Rattle.table.specs.declared.records.Table.{Table}
 use Rattle.table.specs.declared.writing.Request.{Request}
 use Rattle.table.specs.declared.writing.Request.TheVariants as request
-use Rattle.table.specs.Parts.{with_held}
+use Rattle.table.specs.Parts.{half, with_held}
 use Rattle.table.specs.Reads.{module_word, word_read, bits_read, place_read, read_at}
 use Rattle.table.specs.Writes.{collected, released, served, served_answer}
 use Rattle.module.specs.State.{State, count, word_answer, write_levels, done}
@@ -27,11 +26,11 @@ use Rattle.module.proofs.WriteLawsOrders.{carried_within}
 -- the state after a write that asks for q
 abbrev pub after : State → ℕ → ℕ → Result Request ModuleFault → State
 after s o w q = record {
-  table = collected (count s) (served (count s) s.table o w q);
+  table = collected (count s) (served (count s) s.table q);
   levels = write_levels s.levels (served_answer (count s) s.table o q);
 }
 
-module _ (n : ℕ) (t : Table) (h : Held) where
+module _ (n : ℕ) (t : Table) (h : Option Half) where
   module_word_unread : (r : ModuleWord) → module_word n (with_held t h) r ≡ module_word n t r
   module_word_unread mw.Status = refl
   module_word_unread mw.Control = refl
@@ -69,12 +68,12 @@ half_alone s o w r h =
     let e = upper_holds s o w r h in
     record {
       answer = ap (λ (q : Result Request ModuleFault). done (served_answer (count s) s.table o q)) e;
-      words = λ p. ap (λ (q : Result Request ModuleFault). word_answer (after s o w q) p) e ∙ held_unread (count s) (collected (count s) s.table) (Upper (o + 2) w) (located (count s) p);
+      words = λ p. ap (λ (q : Result Request ModuleFault). word_answer (after s o w q) p) e ∙ held_unread (count s) (collected (count s) s.table) (Some (half (o + 2) w)) (located (count s) p);
       levels = ap (λ (q : Result Request ModuleFault). (after s o w q).levels) e;
     }
 
-nothing_held : (s : State) (o w : ℕ) (q : Result Request ModuleFault) → (q ≡ Ok request.Hold → ⊥) → (after s o w q).table.held ≡ Nothing
-nothing_held s o w (Ok request.Hold) none = absurd (none refl)
+nothing_held : (s : State) (o w : ℕ) (q : Result Request ModuleFault) → ((h : Half) → q ≡ Ok (request.Hold h) → ⊥) → (after s o w q).table.held ≡ None
+nothing_held s o w (Ok (request.Hold u)) none = absurd (none u refl)
 nothing_held s o w (Ok (request.Carry x)) none = (carried_within (count s) (released s.table) x).kept.0
 nothing_held s o w (Err f) none = refl
 

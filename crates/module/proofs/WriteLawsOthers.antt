@@ -71,17 +71,17 @@ module _ (s : State) (o w j : ℕ) (x : Subject) (apart : Apart x j) where
   order_apart y e = subst (λ (z : Subject). Apart z j) (sym e) apart
 
   after_record : (q : Result Request ModuleFault) → AskedFor x q → channel_of (after s o w q).table j ≡ channel_of s.table j
-  after_record (Ok request.Hold) h = refl
+  after_record (Ok (request.Hold u)) h = refl
   after_record (Ok (request.Carry y)) h = (carried_within (count s) (released s.table) y).other j (order_apart y h)
   after_record (Err f) h = refl
 
   after_level : (q : Result Request ModuleFault) → AskedFor x q → get_or (after s o w q).levels j 0 ≡ get_or s.levels j 0
-  after_level (Ok request.Hold) h = refl
+  after_level (Ok (request.Hold u)) h = refl
   after_level (Ok (request.Carry y)) h = ended_level (count s) (released s.table) y o _ (carried_answer (count s) (released s.table) y o) (ended (count s) (released s.table) y o) s.levels j (order_apart y h)
   after_level (Err f) h = refl
 
 after_model : (s : State) (o w : ℕ) (q : Result Request ModuleFault) → (after s o w q).table.model ≡ s.table.model
-after_model s o w (Ok request.Hold) = refl
+after_model s o w (Ok (request.Hold u)) = refl
 after_model s o w (Ok (request.Carry y)) = (carried_within (count s) (released s.table) y).kept.1
 after_model s o w (Err f) = refl
 

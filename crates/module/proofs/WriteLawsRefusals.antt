@@ -39,7 +39,7 @@ module _ (s : State) (o w : ℕ) (f : ModuleFault) where
   ended_left x h u r notes e = (refl, λ other. absurd (other (sym (ap numbered e))), λ five. (subject_of x, h, refl))
 
   request_left : (x : Subject) → StandsAt s o x → (q : Result Request ModuleFault) → AskedFor x q → done (served_answer (count s) s.table o q) ≡ Err f → Left (after s o w q)
-  request_left x h (Ok request.Hold) a e = absurd (done_not_err f e)
+  request_left x h (Ok (request.Hold u)) a e = absurd (done_not_err f e)
   request_left x h (Ok (request.Carry y)) a e =
       ended_left y (subst (StandsAt s o) (sym a) h) (carried (count s) (released s.table) y) (carried_answer (count s) (released s.table) y o) (ended (count s) (released s.table) y o) e
   request_left x h (Err g) a e = (refl, λ _. refl, λ five. absurd (a (ap numbered e ∙ five)))

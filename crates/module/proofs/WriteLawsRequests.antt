@@ -1,5 +1,5 @@
 -- What a write asks for, told from the place where it is written.
-use Rattle.std.proofs.Common.{◌≡◌, ℕ, Bool, true, false, cond, eqb, Some, None, Ok, Err, Option, Result, sym, refl, ap, ◌∙◌, subst, arith}
+use Rattle.std.proofs.Common.{◌≡◌, ℕ, ◌+◌, Bool, true, false, cond, eqb, Some, None, Ok, Err, Option, Result, sym, refl, ap, ◌∙◌, subst, arith}
 use Rattle.std.proofs.lemmas.Bool.{cond-true}
 use Rattle.registers.specs.declared.fault.ModuleFault.{ModuleFault}
 use Rattle.registers.specs.declared.place.ModuleWord.TheVariants as mw
@@ -16,11 +16,11 @@ use Rattle.registers.specs.declared.place.Place.TheVariants as place
 use Rattle.registers.specs.Faults.{number, refusal_1, refusal_3, refusal_4}
 use Rattle.registers.specs.Map.{outside, place_at, filled, located}
 use Rattle.registers.specs.Rights.{writable, word_writable, value_writable}
-use Rattle.table.specs.declared.records.Held.{Held}
-use Rattle.table.specs.declared.records.Held.TheVariants.{Nothing, Upper}
+use Rattle.table.specs.declared.records.Half.{Half}
 use Rattle.table.specs.declared.order.Order.{Order}
 use Rattle.table.specs.declared.writing.Request.{Request}
 use Rattle.table.specs.declared.writing.Request.TheVariants as request
+use Rattle.table.specs.Parts.{half}
 use Rattle.table.specs.Orders.{Subject, subject_of, word_order, value_order}
 use Rattle.table.specs.Writes.{carries, completes, request_at, request_in, requested}
 use Rattle.module.specs.State.{State, count}
@@ -31,17 +31,17 @@ asked s o w = requested (count s) s.table o w
 
 -- ---- an upper half
 
-pub upper_holds : (s : State) (o w : ℕ) (r : ValueRegister) → UpperAt s o r → asked s o w ≡ Ok request.Hold
+pub upper_holds : (s : State) (o w : ℕ) (r : ValueRegister) → UpperAt s o r → asked s o w ≡ Ok (request.Hold (half (o + 2) w))
 upper_holds s o w r h =
     ap (λ (x : Result Place ModuleFault). request_in s.table.held x o w) h.found
-    ∙ cond-true (value_writable r) (Ok request.Hold) (Err (refusal_3 o)) h.writable
+    ∙ cond-true (value_writable r) (Ok (request.Hold (half (o + 2) w))) (Err (refusal_3 o)) h.writable
 
 -- what asks for something else than to hold
 abbrev NoHold : Result Request ModuleFault → Type 0
-NoHold q = q ≡ Ok request.Hold → ⊥
+NoHold q = (h : Half) → q ≡ Ok (request.Hold h) → ⊥
 
 refusal_no_hold : (f : ModuleFault) → NoHold (Err f)
-refusal_no_hold f e = let z : ◌≡◌ {A = ℕ} 0 1 = cc in omega arith
+refusal_no_hold f h e = let z : ◌≡◌ {A = ℕ} 0 1 = cc in omega arith
 
 if_no_hold : (b : Bool) (q : Result Request ModuleFault) (f : ModuleFault) → NoHold q → NoHold (cond b q (Err f))
 if_no_hold true q f h = h
@@ -49,11 +49,11 @@ if_no_hold false q f h = refusal_no_hold f
 
 carries_no_hold : (o : ℕ) (x : Option Order) → NoHold (carries o x)
 carries_no_hold o None = refusal_no_hold (refusal_3 o)
-carries_no_hold o (Some x) = λ e. let z : ◌≡◌ {A = ℕ} 0 1 = cc in omega arith
+carries_no_hold o (Some x) = λ h e. let z : ◌≡◌ {A = ℕ} 0 1 = cc in omega arith
 
-completes_no_hold : (h : Held) (o : ℕ) (x : ℕ → Option Order) → NoHold (completes h o x)
-completes_no_hold Nothing o x = refusal_no_hold (refusal_4 o)
-completes_no_hold (Upper a u) o x = if_no_hold (eqb a o) (carries o (x u)) (refusal_4 o) (carries_no_hold o (x u))
+completes_no_hold : (h : Option Half) (o : ℕ) (x : ℕ → Option Order) → NoHold (completes h o x)
+completes_no_hold None o x = refusal_no_hold (refusal_4 o)
+completes_no_hold (Some h) o x = if_no_hold (eqb h.awaited o) (carries o (x h.word)) (refusal_4 o) (carries_no_hold o (x h.word))
 
 module _ (s : State) (o w : ℕ) (none : (r : ValueRegister) → UpperAt s o r → ⊥) where
   by_place : (p : Place) → located (count s) o ≡ Ok p → NoHold (cond (writable p) (request_at s.table.held p o w) (Err (refusal_3 o)))
@@ -61,8 +61,8 @@ module _ (s : State) (o w : ℕ) (none : (r : ValueRegister) → UpperAt s o r �
   by_place (place.Lower r) e = if_no_hold (value_writable r) _ (refusal_3 o) (completes_no_hold s.table.held o (λ u. value_order r u w))
   by_place (place.Upper r) e = by_right (value_writable r) refl
     where
-      by_right : (b : Bool) → value_writable r ≡ b → NoHold (cond b (Ok request.Hold) (Err (refusal_3 o)))
-      by_right true t = λ _. none r (record { found = e; writable = t })
+      by_right : (b : Bool) → value_writable r ≡ b → NoHold (cond b (Ok (request.Hold (half (o + 2) w))) (Err (refusal_3 o)))
+      by_right true t = λ h _. none r (record { found = e; writable = t })
       by_right false t = refusal_no_hold (refusal_3 o)
 
   by_located : (x : Result Place ModuleFault) → located (count s) o ≡ x → NoHold (request_in s.table.held x o w)
@@ -72,11 +72,38 @@ module _ (s : State) (o w : ℕ) (none : (r : ValueRegister) → UpperAt s o r �
   pub other_no_hold : NoHold (asked s o w)
   other_no_hold = by_located (located (count s) o) refl
 
+-- what holds no half but the upper half w written at o
+abbrev pub HoldsOwn : ℕ → ℕ → Result Request ModuleFault → Type 0
+HoldsOwn o w (Ok (request.Hold h)) = h ≡ half (o + 2) w
+HoldsOwn o w (Ok (request.Carry x)) = Unit {0}
+HoldsOwn o w (Err f) = Unit {0}
+
+if_own : (o w : ℕ) (b : Bool) (q : Result Request ModuleFault) (f : ModuleFault) → HoldsOwn o w q → HoldsOwn o w (cond b q (Err f))
+if_own o w true q f h = h
+if_own o w false q f h = tt
+
+carries_own : (o w : ℕ) (x : Option Order) → HoldsOwn o w (carries o x)
+carries_own o w None = tt
+carries_own o w (Some x) = tt
+
+request_own : (g : Option Half) (p : Place) (o w : ℕ) → HoldsOwn o w (request_at g p o w)
+request_own g (place.Word r) o w = carries_own o w (word_order r w)
+request_own g (place.Upper r) o w = refl
+request_own None (place.Lower r) o w = tt
+request_own (Some h) (place.Lower r) o w = if_own o w (eqb h.awaited o) _ (refusal_4 o) (carries_own o w (value_order r h.word w))
+
+located_own : (g : Option Half) (x : Result Place ModuleFault) (o w : ℕ) → HoldsOwn o w (request_in g x o w)
+located_own g (Ok p) o w = if_own o w (writable p) _ (refusal_3 o) (request_own g p o w)
+located_own g (Err f) o w = tt
+
+pub asked_own : (s : State) (o w : ℕ) → HoldsOwn o w (asked s o w)
+asked_own s o w = located_own s.table.held (located (count s) o) o w
+
 -- ---- what the order is for
 
 -- an order is for x; what is refused before there is an order has another number than 5
 abbrev pub AskedFor : Subject → Result Request ModuleFault → Type 0
-AskedFor x (Ok request.Hold) = Unit {0}
+AskedFor x (Ok (request.Hold u)) = Unit {0}
 AskedFor x (Ok (request.Carry y)) = subject_of y ≡ x
 AskedFor x (Err f) = number f ≡ 5 → ⊥
 
@@ -126,17 +153,17 @@ carries_for : (x : Subject) (o : ℕ) (y : Option Order) → OrderFor x y → As
 carries_for x o None h = λ e. omega arith
 carries_for x o (Some y) h = h
 
-completes_for : (x : Subject) (h : Held) (o : ℕ) (y : ℕ → Option Order) → ((u : ℕ) → OrderFor x (y u)) → AskedFor x (completes h o y)
-completes_for x Nothing o y k = λ e. omega arith
-completes_for x (Upper a u) o y k = if_for x (eqb a o) (carries o (y u)) (refusal_4 o) (carries_for x o (y u) (k u)) (λ e. omega arith)
+completes_for : (x : Subject) (h : Option Half) (o : ℕ) (y : ℕ → Option Order) → ((u : ℕ) → OrderFor x (y u)) → AskedFor x (completes h o y)
+completes_for x None o y k = λ e. omega arith
+completes_for x (Some h) o y k = if_for x (eqb h.awaited o) (carries o (y h.word)) (refusal_4 o) (carries_for x o (y h.word) (k h.word)) (λ e. omega arith)
 
-request_for : (h : Held) (p : Place) (o w : ℕ) → AskedFor (place_subject p) (request_at h p o w)
+request_for : (h : Option Half) (p : Place) (o w : ℕ) → AskedFor (place_subject p) (request_at h p o w)
 request_for h (place.Word r) o w = carries_for (word_subject r) o (word_order r w) (word_for r w)
 request_for h (place.Upper r) o w = tt
 request_for h (place.Lower r) o w = completes_for (value_subject r) h o (λ u. value_order r u w) (λ u. value_for r u w)
 
 -- a write at a place is for what the place is for
-place_for : (h : Held) (p : Place) (o w : ℕ) → AskedFor (place_subject p) (request_in h (Ok p) o w)
+place_for : (h : Option Half) (p : Place) (o w : ℕ) → AskedFor (place_subject p) (request_in h (Ok p) o w)
 place_for h p o w = if_for (place_subject p) (writable p) (request_at h p o w) (refusal_3 o) (request_for h p o w) (λ e. omega arith)
 
 pub stands_for : (s : State) (o w : ℕ) (x : Subject) → StandsAt s o x → AskedFor x (asked s o w)

@@ -1,7 +1,9 @@
 -- Switching on is refused exactly for a blocked channel that is off.
-use Rattle.std.proofs.Common.{◌≡◌, ℕ, suc, ◌<◌, ◌≤◌, min, Bool, true, false, cond, not, List, [], ◌∷◌, length, get_or, Ok, Err, Result, sym, refl, ap, ◌∙◌, inl, inr, arith}
-use Rattle.std.proofs.lemmas.List.{length-take, get_or-take}
-use Rattle.std.proofs.lemmas.Bool.{false≢true, or_cases, or_left, or_right, and_parts, and_from, not-true, not_from_false, cond-true, cond-false}
+use Rattle.std.proofs.Common.{◌≡◌, ℕ, ◌<◌, ◌≤◌, min, Bool, true, false, cond, not, List, length, get_or, Some, Option, Ok, Err, Result, sym, refl, ap, ◌∙◌, arith}
+use Rattle.std.specs.List.{list_any}
+use Rattle.std.proofs.lemmas.List.{length-take, get_or-take, get_or_default}
+use Rattle.std.proofs.lemmas.List.Folds.{Any-from_list_any, list_any_at}
+use Rattle.std.proofs.lemmas.Bool.{and_parts, and_from, not-true, not_from_false, cond-true, cond-false}
 use Rattle.registers.specs.declared.fault.ModuleFault.{ModuleFault}
 use Rattle.registers.specs.declared.place.ChannelWord.TheVariants as cw
 use Rattle.registers.specs.declared.place.WordRegister.TheVariants as wr
@@ -11,8 +13,7 @@ use Rattle.registers.specs.Faults.{refusal_6}
 use Rattle.registers.specs.Map.{located}
 use Rattle.registers.proofs.Standing.{map_stands}
 use Rattle.table.specs.declared.records.Channel.{Channel}
-use Rattle.table.specs.declared.records.Held.{Held}
-use Rattle.table.specs.declared.records.Held.TheVariants.{Upper}
+use Rattle.table.specs.declared.records.Half.{Half}
 use Rattle.table.specs.declared.records.Table.{Table}
 use Rattle.table.specs.declared.order.Order.TheVariants as order
 use Rattle.table.specs.declared.carrying.Drive.{Drive}
@@ -22,26 +23,13 @@ use Rattle.table.specs.declared.writing.Request.TheVariants as request
 use Rattle.table.specs.Carrying.{module_passes, blocked_switch, drive_of}
 use Rattle.table.specs.Changes.{blocked, switch_refused}
 use Rattle.table.specs.Orders.{of_channel, Switching, unswitched, turned_on, emergency, switching_of, sets_emergency, sets_on}
-use Rattle.table.specs.Reads.{no_channel, channel_of, placed, any_of}
+use Rattle.table.specs.Parts.{half}
+use Rattle.table.specs.Reads.{no_channel, channel_of, placed}
 use Rattle.table.specs.Writes.{released, request_in, served_answer}
 use Rattle.module.specs.State.{State, count, done, write_answer, write_state}
 use Rattle.module.specs.WriteLaws.{Whole, OffAndBlocked, Refuses6, control_offset, ChannelRefuses, SwitchRefused}
 use Rattle.module.proofs.WriteLawsRefusals.{refused_changes_nothing}
 use Rattle.module.proofs.WriteLawsRequests.{asked}
-
--- ---- some channel fits
-
-any_some : (p : Channel → Bool) (cs : List Channel) → any_of p cs ≡ true → (k : ℕ) × (k < length cs) × (p (get_or cs k no_channel) ≡ true)
-any_some p [] e = absurd (false≢true e)
-any_some p (c ∷ cs) e = elim (or_cases (p c) (any_of p cs) e) [
-  | inl t ↦ (0, omega arith, t)
-  | inr t ↦ let r = any_some p cs t in (suc r.0, omega (arith, r.1), r.2)
-]
-
-any_from : (p : Channel → Bool) (cs : List Channel) (k : ℕ) → k < length cs → p (get_or cs k no_channel) ≡ true → any_of p cs ≡ true
-any_from p [] k h e = absurd (omega arith)
-any_from p (c ∷ cs) ℕ.zero h e = or_left (p c) (any_of p cs) e
-any_from p (c ∷ cs) (ℕ.suc k) h e = or_right (p c) (any_of p cs) (any_from p cs k (omega arith) e)
 
 module _ (s : State) (whole : Whole s) where
   placed_length : length (placed (count s) s.table) ≡ count s
@@ -93,7 +81,7 @@ module _ (s : State) (k w : ℕ) (few : count s ≤ 12) (below : k < count s) (s
 
 -- ---- all channels
 
-module _ (s : State) (whole : Whole s) (held : s.table.held ≡ Upper 0x2B6 0) where
+module _ (s : State) (whole : Whole s) (held : s.table.held ≡ Some (half 0x2B6 0)) where
   abbrev barred : Channel → Bool
   barred = switch_refused (module_passes s.table)
 
@@ -101,21 +89,22 @@ module _ (s : State) (whole : Whole s) (held : s.table.held ≡ Upper 0x2B6 0) w
   channels = placed (count s) s.table
 
   group_asks : asked s 0x2B6 1 ≡ Ok (request.Carry (order.GroupSwitch 1))
-  group_asks = ap (λ (h : Held). request_in h (located (count s) 0x2B6) 0x2B6 1) held
+  group_asks = ap (λ (h : Option Half). request_in h (located (count s) 0x2B6) 0x2B6 1) held
 
-  group_answer : write_answer s 0x2B6 1 ≡ done (cond (any_of barred channels) (Err (refusal_6 0x2B6)) (Ok drive.Nothing))
+  group_answer : write_answer s 0x2B6 1 ≡ done (cond (list_any barred channels) (Err (refusal_6 0x2B6)) (Ok drive.Nothing))
   group_answer = ap (λ (q : Result Request ModuleFault). done (served_answer (count s) s.table 0x2B6 q)) group_asks
 
   group_refused : (k : ℕ) → k < count s → OffAndBlocked s.table k → Refuses6 s 0x2B6 1
   group_refused k h b =
-      six 0x2B6 drive.Nothing (write_answer s 0x2B6 1) (any_of barred channels) group_answer
-      (any_from barred channels k (omega (arith, placed_length s whole)) (ap barred (placed_at s whole k h) ∙ refuses s.table k b))
+      six 0x2B6 drive.Nothing (write_answer s 0x2B6 1) (list_any barred channels) group_answer
+      (list_any_at barred channels k no_channel (omega (arith, placed_length s whole)) (ap barred (placed_at s whole k h) ∙ refuses s.table k b))
 
   group_only : Refuses6 s 0x2B6 1 → (k : ℕ) × (k < count s) × OffAndBlocked s.table k
   group_only e =
-      let r = any_some barred channels (six_only 0x2B6 drive.Nothing (write_answer s 0x2B6 1) (any_of barred channels) group_answer e) in
-      let h : r.0 < count s = omega (arith, r.1, placed_length s whole) in
-      (r.0, h, refuses_only s.table r.0 (ap barred (sym (placed_at s whole r.0 h)) ∙ r.2))
+      let r = Any-from_list_any barred channels (six_only 0x2B6 drive.Nothing (write_answer s 0x2B6 1) (list_any barred channels) group_answer e) in
+      let h : r.0 < count s = omega (arith, r.2, placed_length s whole) in
+      let here : get_or channels r.0 no_channel ≡ r.1 = get_or_default channels r.0 no_channel r.1 r.2 ∙ r.3 in
+      (r.0, h, refuses_only s.table r.0 (ap barred (sym (placed_at s whole r.0 h) ∙ here) ∙ r.4))
 
   group_unchanged : Refuses6 s 0x2B6 1 → (write_state s 0x2B6 1).table.channels ≡ s.table.channels
   group_unchanged e = ap (λ (t : Table). t.channels) ((refused_changes_nothing s 0x2B6 1 (refusal_6 0x2B6) e).table (λ five. omega arith))

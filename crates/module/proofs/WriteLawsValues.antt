@@ -21,10 +21,10 @@ use Rattle.registers.specs.Offsets.{value_offset}
 use Rattle.registers.specs.Rights.{value_writable}
 use Rattle.registers.proofs.Standing.{map_stands}
 use Rattle.table.specs.declared.records.Channel.{Channel}
-use Rattle.table.specs.declared.records.Held.TheVariants.{Upper}
 use Rattle.table.specs.declared.records.Table.{Table}
 use Rattle.table.specs.declared.change.Change.{Change}
 use Rattle.table.specs.declared.change.Change.TheVariants as change
+use Rattle.table.specs.declared.setting.Setting.TheVariants as setting
 use Rattle.table.specs.declared.order.Order.{Order}
 use Rattle.table.specs.declared.carrying.Drive.{Drive}
 use Rattle.table.specs.declared.writing.Request.{Request}
@@ -32,6 +32,7 @@ use Rattle.table.specs.declared.writing.Request.TheVariants as request
 use Rattle.table.specs.Carrying.{changed_at, obeyed, admitted, carried, carried_answer}
 use Rattle.table.specs.Changes.{changed}
 use Rattle.table.specs.Orders.{quantity_of, value_order}
+use Rattle.table.specs.Parts.{half}
 use Rattle.table.specs.Reads.{channel_of, no_channel, bits_read, read_at, read_answer}
 use Rattle.table.specs.Writes.{collected, released, carries, request_in, served_answer}
 use Rattle.module.specs.State.{State, count, done, word_answer, write_state, write_answer}
@@ -79,12 +80,12 @@ module _ (n : ℕ) (t : Table) (u l : ℕ) (U : u < 65536) (L : l < 65536) (reco
   order_returns (vr.Module mv.VoltageMax) h = tt
   order_returns (vr.Module mv.CurrentMax) h = tt
   order_returns (vr.Module mv.Temperature) h = tt
-  order_returns (vr.Channel k cv.VoltageSet) h = λ a. changed_here k (change.Voltage (value_of u l)) (λ c. to_bits binary32 c.setpoint.voltage) h ∙ volts_back a
-  order_returns (vr.Channel k cv.CurrentSet) h = λ a. changed_here k (change.Current (value_of u l)) (λ c. to_bits binary32 c.setpoint.current) h ∙ amperes_back a
+  order_returns (vr.Channel k cv.VoltageSet) h = λ a. changed_here k (change.Set (setting.Voltage (value_of u l))) (λ c. to_bits binary32 c.setpoint.voltage) h ∙ volts_back a
+  order_returns (vr.Channel k cv.CurrentSet) h = λ a. changed_here k (change.Set (setting.Current (value_of u l))) (λ c. to_bits binary32 c.setpoint.current) h ∙ amperes_back a
   order_returns (vr.Channel k cv.VoltageMeasure) h = tt
   order_returns (vr.Channel k cv.CurrentMeasure) h = tt
-  order_returns (vr.Channel k cv.VoltageBounds) h = λ a. changed_here k (change.VoltageBounds (value_of u l)) (λ c. to_bits binary32 c.bounds.voltage) h ∙ volts_back a
-  order_returns (vr.Channel k cv.CurrentBounds) h = λ a. changed_here k (change.CurrentBounds (value_of u l)) (λ c. to_bits binary32 c.bounds.current) h ∙ amperes_back a
+  order_returns (vr.Channel k cv.VoltageBounds) h = λ a. changed_here k (change.Set (setting.VoltageBounds (value_of u l))) (λ c. to_bits binary32 c.bounds.voltage) h ∙ volts_back a
+  order_returns (vr.Channel k cv.CurrentBounds) h = λ a. changed_here k (change.Set (setting.CurrentBounds (value_of u l))) (λ c. to_bits binary32 c.bounds.current) h ∙ amperes_back a
   order_returns (vr.Channel k cv.VoltageNominal) h = tt
   order_returns (vr.Channel k cv.CurrentNominal) h = tt
   order_returns (vr.Group gv.Voltage) h = volts_back
@@ -107,7 +108,7 @@ module _ (s : State) (r : ValueRegister) (u l : ℕ) (whole : Whole s) (here : V
   o = value_offset r
 
   abbrev held : State
-  held = after s o u (Ok request.Hold)
+  held = after s o u (Ok (request.Hold (half (o + 2) u)))
 
   found_upper : located (count s) o ≡ Ok (place.Upper r)
   found_upper = map_stands.found (count s) (place.Upper r) whole.few here
@@ -117,7 +118,7 @@ module _ (s : State) (r : ValueRegister) (u l : ℕ) (whole : Whole s) (here : V
 
   asks : asked held (o + 2) l ≡ carries (o + 2) (value_order r u l)
   asks =
-      ap (λ (x : Result Place ModuleFault). request_in (Upper (o + 2) u) x (o + 2) l) found_lower
+      ap (λ (x : Result Place ModuleFault). request_in (Some (half (o + 2) u)) x (o + 2) l) found_lower
       ∙ cond-true (value_writable r) (cond (eqb (o + 2) (o + 2)) (carries (o + 2) (value_order r u l)) (Err (refusal_4 (o + 2)))) (Err (refusal_3 (o + 2))) right
       ∙ cond-true (eqb (o + 2) (o + 2)) (carries (o + 2) (value_order r u l)) (Err (refusal_4 (o + 2))) (eq-eqb (o + 2) (o + 2) refl)
 

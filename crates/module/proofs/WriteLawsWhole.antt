@@ -13,7 +13,7 @@ use Rattle.module.proofs.WriteLawsOthers.{count_after}
 use Rattle.module.proofs.WriteLawsRequests.{asked}
 
 after_length : (s : State) (o w : ℕ) (q : Result Request ModuleFault) → length (after s o w q).table.channels ≡ length s.table.channels
-after_length s o w (Ok request.Hold) = refl
+after_length s o w (Ok (request.Hold u)) = refl
 after_length s o w (Ok (request.Carry x)) = (carried_within (count s) (released s.table) x).kept.2
 after_length s o w (Err f) = refl
 

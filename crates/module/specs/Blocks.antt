@@ -11,10 +11,6 @@ use Rattle.module.specs.State.{State, word_answer, write_state, write_answer}
 abbrev pub block_fault : ℕ → ModuleFault → BlockFault
 block_fault i f = record { index = i; fault = f }
 
-abbrev pub numbered : ℕ → Result Access ModuleFault → Result Access (ℕ × ModuleFault)
-numbered i (Ok a) = Ok a
-numbered i (Err f) = Err (i, f)
-
 -- a read leaves the state
 abbrev pub access_state_as : Kind → State → Access → State
 access_state_as Read s a = s

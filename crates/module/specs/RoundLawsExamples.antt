@@ -7,6 +7,7 @@ use Rattle.values.specs.declared.model.Model.TheVariants.{V2000}
 use Rattle.values.specs.Ranges.{zero, hundred, stored_maximum}
 use Rattle.values.specs.Steps.{limit_steps}
 use Rattle.table.specs.declared.change.Change.TheVariants as change
+use Rattle.table.specs.declared.setting.Setting.TheVariants as setting
 use Rattle.table.specs.declared.records.Channel.{Channel}
 use Rattle.table.specs.declared.records.Conditions.{Conditions}
 use Rattle.table.specs.declared.round.Reading.{Reading}
@@ -30,7 +31,7 @@ NewPlaced = (m : Model) (n k : ℕ) → n ≤ 12 → k < n → Placed (new_state
 
 -- a new channel of 2,000 V, set to 1,000 V and switched on
 abbrev pub rising_channel : Channel
-rising_channel = changed (changed (new_channel V2000) (change.Voltage (from_bits binary32 0x447A_0000))) (change.Switch true)
+rising_channel = changed (changed (new_channel V2000) (change.Set (setting.Voltage (from_bits binary32 0x447A_0000)))) (change.Switch true)
 
 -- a module of that channel alone, at a level; VoltageRampSpeed is 1 and KillEnable is off
 abbrev pub rising_from : ℕ → State

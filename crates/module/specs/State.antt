@@ -8,15 +8,10 @@ use Rattle.table.specs.declared.carrying.Drive.{Drive}
 use Rattle.table.specs.declared.carrying.Drive.TheVariants as drive
 use Rattle.table.specs.Reads.{read_answer}
 use Rattle.table.specs.Writes.{collected, written_table, written_answer}
-use Rattle.module.specs.declared.Module.{Module}
 
 pub record State : Type 0 where
   pub table : Table
   pub levels : List ℕ
-
--- the state of a module, where `levels` is what its stage means
-abbrev pub state_of : {S : Type 0} → (S → List ℕ) → Module S → State
-state_of levels m = record { table = m.table; levels = levels m.stage }
 
 -- the channels of a module are those of its stage
 abbrev pub count : State → ℕ

@@ -1,5 +1,5 @@
 -- Laws of a write: what it changes, what it leaves as it was, and when it is refused.
-use Rattle.std.specs.Prelude.{◌≡◌, ℕ, ◌+◌, ◌<◌, ◌≤◌, true, false, length, Ok, Err, Result, ◌≢◌, slice_index, slice_index_or}
+use Rattle.std.specs.Prelude.{◌≡◌, ℕ, ◌+◌, ◌<◌, ◌≤◌, true, false, length, Some, None, Ok, Err, Result, ◌≢◌, slice_index, slice_index_or}
 use Rattle.values.specs.declared.model.Model.{Model}
 use Rattle.registers.specs.declared.fault.ModuleFault.{ModuleFault}
 use Rattle.registers.specs.declared.place.ChannelWord.TheVariants as cw
@@ -13,11 +13,11 @@ use Rattle.registers.specs.Faults.{number, refusal_6}
 use Rattle.registers.specs.Map.{located, ValuePlaced}
 use Rattle.registers.specs.Offsets.{word_offset, value_offset}
 use Rattle.registers.specs.Rights.{value_writable}
-use Rattle.table.specs.declared.records.Held.TheVariants.{Nothing, Upper}
 use Rattle.table.specs.declared.records.Table.{Table}
 use Rattle.table.specs.Carrying.{module_passes, error_noted}
 use Rattle.table.specs.Changes.{blocked}
 use Rattle.table.specs.Orders.{Subject, of_module, of_channel, of_all, sets_emergency, sets_on}
+use Rattle.table.specs.Parts.{half}
 use Rattle.table.specs.Reads.{channel_of}
 use Rattle.table.specs.Writes.{collected, released}
 use Rattle.module.specs.State.{State, count, collected_state, new_state, word_answer, write_state, write_answer}
@@ -71,8 +71,8 @@ HalfAlone = (s : State) (o w : ℕ) (r : ValueRegister) → UpperAt s o r → On
 
 -- after an accepted upper half it is held, for the word after it; after any other write nothing is held
 pub record HeldAfter : Type 0 where
-  pub upper : (s : State) (o w : ℕ) (r : ValueRegister) → UpperAt s o r → (write_state s o w).table.held ≡ Upper (o + 2) w
-  pub others : (s : State) (o w : ℕ) → ((r : ValueRegister) → UpperAt s o r → ⊥) → (write_state s o w).table.held ≡ Nothing
+  pub upper : (s : State) (o w : ℕ) (r : ValueRegister) → UpperAt s o r → (write_state s o w).table.held ≡ Some (half (o + 2) w)
+  pub others : (s : State) (o w : ℕ) → ((r : ValueRegister) → UpperAt s o r → ⊥) → (write_state s o w).table.held ≡ None
 
 -- the halves u and l of the value r are written one right after the other
 abbrev pub completed : State → ValueRegister → ℕ → ℕ → State
@@ -151,4 +151,4 @@ pub record GroupRefuses (s : State) : Type 0 where
 -- switching on is refused exactly for a blocked channel that is off: by bit 3 without bit 5 of ChannelControl, or by data 1 of the group
 pub record SwitchRefused : Type 0 where
   pub channel : (s : State) (k w : ℕ) → count s ≤ 12 → k < count s → sets_emergency w ≡ false → sets_on w ≡ true → ChannelRefuses s k w
-  pub group : (s : State) → Whole s → s.table.held ≡ Upper 0x2B6 0 → GroupRefuses s
+  pub group : (s : State) → Whole s → s.table.held ≡ Some (half 0x2B6 0) → GroupRefuses s

@@ -1,20 +1,19 @@
 // A block: a lent list of accesses, done in order up to the first refusal.
 ghost use Rattle.std.specs.Prelude.{◌≡◌};
-ghost use Rattle.module.specs.State.{state_of};
 ghost use Rattle.module.specs.BlockLaws.{BlockLaw};
-ghost use Rattle.module.specs.Blocks.{block_fault, numbered, access_state, access_answer, end_of, block_end};
+ghost use Rattle.module.specs.Blocks.{block_fault, access_state, access_answer, end_of, block_end};
 
 use crate::Module;
 use registers::ModuleFault;
 use stage::Stage;
 
-#[derive(Clone, Copy)]
+#[derive(Clone, Copy, PartialEq, Eq, Debug)]
 pub enum Kind {
     Read,
     Write,
 }
 
-#[derive(Clone, Copy)]
+#[derive(Clone, Copy, PartialEq, Eq, Debug)]
 pub struct Access {
     pub kind: Kind,
     pub offset: u16,
@@ -22,7 +21,7 @@ pub struct Access {
 }
 
 // The index of the refused access, and the module's fault whole.
-#[derive(Clone, Copy)]
+#[derive(Clone, Copy, PartialEq, Eq, Debug)]
 pub struct BlockFault {
     pub index: usize,
     pub fault: ModuleFault,
@@ -39,33 +38,16 @@ impl From<(usize, ModuleFault)> for BlockFault {
     }
 }
 
-// A refusal with the index of its access.
-fn at_index(
-    index: usize,
-    answer: Result<Access, ModuleFault>,
-) -> Result<Access, (usize, ModuleFault)>
-    ensures { result ≡ numbered index answer }
-{
-    match answer {
-        Ok(access) => Ok(access),
-        Err(fault) => Err((index, fault)),
-    }
-}
-
 impl<S: Stage> Module<S> {
     // One access: a read puts its word into the record.
     fn access(&mut self, access: Access) -> Result<Access, ModuleFault>
-        ensures state { state_of S.levels self.new ≡ access_state (state_of S.levels self.old) access }
-        ensures answer { result ≡ access_answer (state_of S.levels self.old) access }
+        ensures state { self.new ≡ access_state self.old access }
+        ensures answer { result ≡ access_answer self.old access }
     {
         match access.kind {
             Kind::Read => {
                 let word = self.read(access.offset)?;
-                Ok(Access {
-                    kind: Kind::Read,
-                    offset: access.offset,
-                    word,
-                })
+                Ok(Access { word, ..access })
             }
             Kind::Write => {
                 self.write(access.offset, access.word)?;
@@ -76,11 +58,11 @@ impl<S: Stage> Module<S> {
 
     // How many accesses were done; at a refusal, that record and later ones keep their words.
     pub fn block(&mut self, list: &mut [Access]) -> Result<usize, BlockFault>
-        ensures end { end_of (state_of S.levels self.new) list.new result ≡ block_end 0 (state_of S.levels self.old) list.old }
-        ensures law { BlockLaw (state_of S.levels self.old) list.old (end_of (state_of S.levels self.new) list.new result) result }
+        ensures end { end_of self.new list.new result ≡ block_end 0 self.old list.old }
+        ensures law { BlockLaw self.old list.old (end_of self.new list.new result) result }
     {
-        for index in 0..list.len() {
-            list[index] = at_index(index, self.access(list[index]))?;
+        for (index, record) in list.iter_mut().enumerate() {
+            *record = self.access(*record).map_err(|fault| (index, fault))?;
         }
         Ok(list.len())
     }

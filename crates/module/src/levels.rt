@@ -6,7 +6,8 @@ use crate::Module;
 use stage::Stage;
 
 // The first `count` are the levels of the channels, in order; the others are 0.
-#[derive(Clone, Copy)]
+// The array is of fixed size and the count stands beside it, since `levels` uses no heap and cannot fail.
+#[derive(Clone, Copy, PartialEq, Eq, Debug)]
 pub struct Levels {
     pub count: usize,
     pub steps: [u32; 12],
@@ -14,13 +15,15 @@ pub struct Levels {
 
 impl<S: Stage> Module<S> {
     pub fn levels(&self) -> Levels
-        ensures { result ≡ answered (S.levels self.now.stage) }
+        ensures { result ≡ answered self.now.levels }
     {
-        let count = self.stage.count();
         let mut steps = [0; 12];
-        for channel in 0..count {
-            steps[channel] = self.stage.level(channel).unwrap_or(0);
+        for (channel, step) in steps.iter_mut().enumerate() {
+            *step = self.stage.level(channel).unwrap_or(0);
         }
-        Levels { count, steps }
+        Levels {
+            count: self.stage.count(),
+            steps,
+        }
     }
 }

@@ -4,7 +4,7 @@
 ghost use Rattle.std.specs.Prelude.{◌≡◌, ◌<◌, ◌≤◌, length, Ok};
 ghost use Rattle.module.specs.RoundLaws.{RoundLaws, EventsStay};
 ghost use Rattle.module.specs.Rounds.{stepped, round_state, round_answer};
-ghost use Rattle.module.specs.State.{state_of, new_state, word_answer, write_state, write_answer, zeros};
+ghost use Rattle.module.specs.State.{count, new_state, word_answer, write_state, write_answer, zeros};
 
 pub mod block;
 pub mod figures;
@@ -25,12 +25,20 @@ pub struct Module<S: Stage> {
     stage: S,
 }
 
+// Contracts see a module as its state.
+impl<S: Stage> std::marker::Model for Module<S> {
+    ghost use Rattle.module.specs.State.{State};
+
+    ghost Value = { State };
+
+    ghost view = { λ m. record { table = m.table; levels = S.levels m.stage } };
+}
+
 impl<S: Stage> Module<S> {
     // A new module over a stage with whatever levels: every level is driven to 0.
-    pub fn new(stage: S, model: Model) -> Module<S>
-        ensures { state_of S.levels result ≡ new_state model (length (S.levels stage)) }
+    pub fn new(mut stage: S, model: Model) -> Module<S>
+        ensures { result ≡ new_state model (length (S.levels stage)) }
     {
-        let mut stage = stage;
         let _ = drive_to_zero(&mut stage);
         Module {
             table: Table::new(model),
@@ -39,15 +47,15 @@ impl<S: Stage> Module<S> {
     }
 
     pub fn read(&self, offset: u16) -> Result<u16, ModuleFault>
-        ensures { result ≡ word_answer (state_of S.levels self.now) offset }
+        ensures { result ≡ word_answer self.now offset }
     {
         self.table.read(offset, self.stage.count())
     }
 
     // A half is held; a completed write is one order, carried out whole or refused.
     pub fn write(&mut self, offset: u16, word: u16) -> Result<(), ModuleFault>
-        ensures state { state_of S.levels self.new ≡ write_state (state_of S.levels self.old) offset word }
-        ensures answer { result ≡ write_answer (state_of S.levels self.old) offset word }
+        ensures state { self.new ≡ write_state self.old offset word }
+        ensures answer { result ≡ write_answer self.old offset word }
     {
         match self.table.write(offset, word, self.stage.count())? {
             Drive::Nothing => Ok(()),
@@ -70,10 +78,10 @@ impl<S: Stage> Module<S> {
         conditions: &Conditions,
         readings: &[Reading],
     ) -> Result<(), ModuleFault>
-        ensures state { state_of S.levels self.new ≡ round_state S.regulating (state_of S.levels self.old) conditions.now readings.now }
-        ensures answer { result ≡ round_answer (state_of S.levels self.old) readings.now }
-        ensures laws { result ≡ Ok tt → RoundLaws S.regulating (state_of S.levels self.old) conditions.now readings.now (state_of S.levels self.new) }
-        ensures stays { EventsStay (state_of S.levels self.old) (state_of S.levels self.new) }
+        ensures state { self.new ≡ round_state S.REGULATES self.old conditions.now readings.now }
+        ensures answer { result ≡ round_answer self.old readings.now }
+        ensures laws { result ≡ Ok tt → RoundLaws S.REGULATES self.old conditions.now readings.now self.new }
+        ensures stays { EventsStay self.old self.new }
     {
         let count = self.stage.count();
         if readings.len() != count {
@@ -82,7 +90,7 @@ impl<S: Stage> Module<S> {
             });
         }
         self.table.begin_round(conditions);
-        let pass = self.table.fix_round(S::regulating());
+        let pass = self.table.fix_round(S::REGULATES);
         for (channel, reading) in readings.iter().enumerate() {
             self.step(channel, reading, &pass)?;
         }
@@ -92,9 +100,9 @@ impl<S: Stage> Module<S> {
 
     // One channel's part of the round; its level is driven to where the round moves it.
     fn step(&mut self, channel: usize, reading: &Reading, pass: &Pass) -> Result<(), ModuleFault>
-        requires channel_in_bounds { channel < length (S.levels self.old.stage) }
+        requires channel_in_bounds { channel < count self.old }
         requires limit_steps_bound { pass.now.limit_steps ≤ 100000 }
-        ensures state { state_of S.levels self.new ≡ stepped pass.now (state_of S.levels self.old) channel reading.now }
+        ensures state { self.new ≡ stepped pass.now self.old channel reading.now }
         ensures answer { result ≡ Ok tt }
     {
         let level = self.stage.level(channel)?;
@@ -108,6 +116,7 @@ fn drive_to_zero<S: Stage>(stage: &mut S) -> Result<(), StageFault>
     ensures answer { result ≡ Ok tt }
     ensures state { S.levels stage.new ≡ zeros (S.levels stage.old) }
 {
+    // A stage knows its channels by number, so there is no list to go over.
     for channel in 0..stage.count() {
         stage.drive(channel, 0)?;
     }

@@ -1,5 +1,5 @@
 -- The bytes of some words, and the words read back.
-use Rattle.std.proofs.Common.{◌≡◌, ℕ, ◌+◌, ◌-◌, ◌*◌, ◌/◌, ◌%◌, ◌<◌, ◌≤◌, List, length, get_or, set, Ok, Result, sym, ap, ◌∙◌, arith, length-set, get_or-set_other, get_or-set_same, below_more}
+use Rattle.std.proofs.Common.{◌≡◌, ℕ, ◌+◌, ◌-◌, ◌/◌, ◌%◌, ◌<◌, ◌≤◌, List, length, get_or, set, Ok, Result, sym, ap, ◌∙◌, arith, length-set, get_or-set_other, get_or-set_same, below_more}
 use Rattle.std.proofs.lemmas.List.FromFn.{get_or-map-range_with_len, length-map-range_with_len, fill_by_all}
 use Rattle.std.proofs.lemmas.Bool.Decides.{nat_tests}
 use Rattle.registers.specs.declared.fault.ModuleFault.{ModuleFault}
@@ -27,21 +27,20 @@ module _ (f : ℕ → ℕ) where
   unfolding bytes_of
   filled_all xs l h = fill_by_all (byte_of f) xs 1024 0 l h
 
-  -- one word more
-  more : (xs : List ℕ) (k w : ℕ) → 2 * k + 1 < length xs → w ≡ f (2 * k) → Filled f (2 * k) xs → Filled f (2 * (k + 1)) (with_word xs (2 * k) w)
-  more xs k w l e inv j h =
-      let o : ℕ = 2 * k in
+  -- one word more, at the even offset o
+  more : (xs : List ℕ) (o w : ℕ) → o % 2 ≡ 0 → o + 1 < length xs → w ≡ f o → Filled f o xs → Filled f (o + 2) (with_word xs o w)
+  more xs o w even l e inv j h =
       let ys : List ℕ = set xs o (w / 256) in
       let P : ℕ → Type 0 = λ i. get_or (with_word xs o w) i 0 ≡ byte_of f i in
       below_more P (o + 1)
       (below_more P o
       (λ i b. get_or-set_other ys (o + 1) i (w % 256) 0 (omega arith) ∙ get_or-set_other xs o i (w / 256) 0 (omega arith) ∙ inv i b)
-      (get_or-set_other ys (o + 1) o (w % 256) 0 (omega arith) ∙ get_or-set_same xs o (w / 256) 0 (omega arith) ∙ ap (λ n. n / 256) e ∙ sym (high o (omega arith))))
-      (get_or-set_same ys (o + 1) (w % 256) 0 (omega (arith, length-set xs o (w / 256))) ∙ ap (λ n. n % 256) e ∙ sym (low o (omega arith)))
+      (get_or-set_other ys (o + 1) o (w % 256) 0 (omega arith) ∙ get_or-set_same xs o (w / 256) 0 (omega arith) ∙ ap (λ n. n / 256) e ∙ sym (high o even)))
+      (get_or-set_same ys (o + 1) (w % 256) 0 (omega (arith, length-set xs o (w / 256))) ∙ ap (λ n. n % 256) e ∙ sym (low o even))
       j (omega arith)
 
-  pub filled_more : (xs ys : List ℕ) (k w : ℕ) → 2 * k + 1 < length xs → w ≡ f (2 * k) → ys ≡ with_word xs (2 * k) w → Filled f (2 * k) xs → Filled f (2 * (k + 1)) ys
-  filled_more xs ys k w l e put inv = rw put (more xs k w l e inv)
+  pub filled_more : (xs ys : List ℕ) (o w : ℕ) → o % 2 ≡ 0 → o + 1 < length xs → w ≡ f o → ys ≡ with_word xs o w → Filled f o xs → Filled f (o + 2) ys
+  filled_more xs ys o w even l e put inv = rw put (more xs o w even l e inv)
 
   pub long : length (bytes_of f) ≡ 1024
   unfolding bytes_of

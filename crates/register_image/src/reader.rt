@@ -3,7 +3,7 @@ ghost use Rattle.std.specs.Prelude.{◌≡◌};
 ghost use Rattle.register_image.specs.Image.{reader_bytes, reader_answer, reader_word, block_told, block_answer};
 
 use crate::check_length;
-use registers::ModuleFault;
+use registers::{ModuleFault, check_offset};
 use stage::MOST_CHANNELS;
 
 // The offset of PlacedChannels.
@@ -14,13 +14,13 @@ const FIRST_CHANNEL: usize = 0x60;
 
 const CHANNEL_BYTES: usize = 0x30;
 
-#[derive(Clone, Copy)]
+#[derive(Clone, Copy, PartialEq, Eq, Debug)]
 pub struct ImageReader<'a> {
     bytes: &'a [u8],
 }
 
 // A channel's block as a part of the image, with the offset where it begins.
-#[derive(Clone, Copy)]
+#[derive(Clone, Copy, PartialEq, Eq, Debug)]
 pub struct ChannelBlock<'a> {
     pub offset: u16,
     pub bytes: &'a [u8],
@@ -37,12 +37,10 @@ impl<'a> ImageReader<'a> {
     pub fn word(&self, offset: u16) -> Result<u16, ModuleFault>
         ensures { result ≡ reader_word self.now.bytes.now offset }
     {
-        if offset % 2 == 1 || offset > 0x3FE {
-            return Err(ModuleFault::Outside { offset });
-        }
+        check_offset(offset)?;
         check_length(self.bytes.len())?;
         let at = offset as usize;
-        Ok(self.bytes[at] as u16 * 256 + self.bytes[at + 1] as u16)
+        Ok(u16::from_be_bytes([self.bytes[at], self.bytes[at + 1]]))
     }
 
     // The block of a channel that PlacedChannels has: bit k of that word belongs to channel k.

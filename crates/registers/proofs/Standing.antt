@@ -1,6 +1,7 @@
 -- Each place stands at its own offset, and there only.
 use Rattle.std.proofs.Common.{◌≡◌, ℕ, ◌+◌, ◌%◌, ◌<◌, ◌≤◌, Bool, true, false, cond, eqb, ltb, List, [], ◌∷◌, Some, None, Ok, Err, Option, sym, refl, ap, ◌∙◌, inl, inr, arith}
-use Rattle.std.proofs.lemmas.Bool.{eqb-true, ne_eqb, le-ltb, cases_Bool, cases_lt, cond-true, cond-false, or_from}
+use Rattle.std.proofs.lemmas.Bool.{eqb-true, cases_Bool, cases_lt, cond-true, cond-false}
+use Rattle.std.proofs.lemmas.Grind.{common_steps}
 use Rattle.registers.specs.declared.place.ModuleWord.TheVariants as mw
 use Rattle.registers.specs.declared.place.ModuleValue.TheVariants as mv
 use Rattle.registers.specs.declared.place.ChannelWord.TheVariants as cw
@@ -21,7 +22,7 @@ Own b [] = Unit {0}
 Own b (r ∷ rs) = (b + r.offset ≡ offset_of r.stands) × Own b rs
 
 own : (b : ℕ) (rs : List Row) (o : ℕ) (p : Place) → Own b rs → stands_in rs o ≡ Some p → b + o ≡ offset_of p
-own b [] o p h e = let z : ◌≡◌ {A = ℕ} 0 1 = cc in absurd (omega arith)
+own b [] o p h e = cc
 own b (r ∷ rs) o p h e = elim (cases_Bool (eqb o r.offset)) [
   | inl t ↦
       let same : Some r.stands ≡ Some p = sym (cond-true (eqb o r.offset) (Some r.stands) (stands_in rs o) t) ∙ e in
@@ -31,35 +32,38 @@ own b (r ∷ rs) o p h e = elim (cases_Bool (eqb o r.offset)) [
 ]
 
 own_channel : (k : ℕ) → Own (channel_begins k) (channel_rows k)
-own_channel k = (refl, (refl, (refl, (refl, (refl, (omega arith, (refl, (omega arith, (refl, (omega arith, (refl, (omega arith, (refl, (omega arith, (refl, (omega arith, (refl, (omega arith, (refl, (omega arith, tt))))))))))))))))))))
+own_channel k = grind arith
 
-not_none : (p : Place) → None ≡ Some p → ⊥
-not_none p e = let z : ◌≡◌ {A = ℕ} 0 1 = cc in omega arith
+own_module : Own 0 module_rows
+own_module = grind arith
+
+own_groups : Own 0 group_rows
+own_groups = grind arith
 
 only_at : (n o : ℕ) (p : Place) → place_at n o ≡ Some p → o ≡ offset_of p
 only_at n o p e = elim (cases_lt o 0x60) [
-  | inl h ↦ let q = own 0 module_rows o p (refl, (refl, (refl, (refl, (refl, (refl, (refl, (refl, (refl, (refl, (refl, (refl, (refl, (refl, (refl, (refl, tt)))))))))))))))) (in_module n o h ∙ e) in omega (arith, q)
+  | inl h ↦ let q = own 0 module_rows o p own_module (in_module n o h ∙ e) in omega (arith, q)
   | inr l ↦ elim (cases_lt o 0x2A0) [
     | inl h ↦ elim (cases_Bool (ltb (channel_at o) n)) [
       | inl t ↦
           let q = own (channel_begins (channel_at o)) (channel_rows (channel_at o)) (within_channel o) p (own_channel (channel_at o)) (sym (cond-true (ltb (channel_at o) n) _ _ t) ∙ in_channels n o l h ∙ e) in
           omega (arith, q)
-      | inr f ↦ absurd (not_none p (sym (cond-false (ltb (channel_at o) n) _ _ f) ∙ in_channels n o l h ∙ e))
+      | inr f ↦ let q = sym (cond-false (ltb (channel_at o) n) _ _ f) ∙ in_channels n o l h ∙ e in cc
     ]
-    | inr h ↦ let q = own 0 group_rows o p (refl, (refl, (refl, (refl, (refl, (refl, (refl, (refl, (refl, (refl, (refl, (refl, tt)))))))))))) (in_groups n o h ∙ e) in omega (arith, q)
+    | inr h ↦ let q = own 0 group_rows o p own_groups (in_groups n o h ∙ e) in omega (arith, q)
   ]
 ]
 
 only_filled : (n o : ℕ) (x : Option Place) (p : Place) → place_at n o ≡ x → filled o x ≡ Ok p → o ≡ offset_of p
-only_filled n o None p e h = let z : ◌≡◌ {A = ℕ} 0 1 = cc in absurd (omega arith)
+only_filled n o None p e h = cc
 only_filled n o (Some q) p e h = let same : q ≡ p = cc in only_at n o q e ∙ ap offset_of same
 
 only_located : (n o : ℕ) (b : Bool) (p : Place) → cond b (Err (refusal_1 o)) (filled o (place_at n o)) ≡ Ok p → o ≡ offset_of p
-only_located n o true p e = let z : ◌≡◌ {A = ℕ} 0 1 = cc in absurd (omega arith)
+only_located n o true p e = cc
 only_located n o false p e = only_filled n o (place_at n o) p refl e
 
 inside : (o : ℕ) → o % 2 ≡ 0 → o ≤ 0x3FE → outside o ≡ false
-inside o e h = or_from (eqb (o % 2) 1) (ltb 0x3FE o) (ne_eqb (o % 2) 1 (λ q. omega arith)) (le-ltb 0x3FE o h)
+inside o e h = grind (arith, common_steps)
 
 -- channel k, c bytes from where its block begins
 found_channel : (n k c : ℕ) (p : Place) → n ≤ 12 → k < n → c % 2 ≡ 0 → c < 0x30 → stands_in (channel_rows k) c ≡ Some p → located n (channel_begins k + c) ≡ Ok p

@@ -30,6 +30,10 @@ word o r = row o (place.Word r) ∷ []
 abbrev pub value : ℕ → ValueRegister → List Row
 value o r = row o (place.Upper r) ∷ row (o + 2) (place.Lower r) ∷ []
 
+-- a value stands at a multiple of 4: so the half of it that stands at o
+abbrev pub half_at : ℕ → ValueRegister → Place
+half_at o r = cond (o % 4 == 0) (place.Upper r) (place.Lower r)
+
 abbrev pub module_rows : List Row
 module_rows =
     word 0x00 (wr.Module mw.Status)
@@ -95,6 +99,10 @@ place_at n o =
 -- an offset that no word has: odd, or above 3FE
 abbrev pub outside : ℕ → Bool
 outside o = o % 2 == 1 || nat_lt 0x3FE o
+
+-- what the test of an offset answers
+abbrev pub checked : ℕ → Result Unit ModuleFault
+checked o = cond (outside o) (Err (refusal_1 o)) (Ok tt)
 
 abbrev pub filled : ℕ → Option Place → Result Place ModuleFault
 filled o None = Err (refusal_2 o)

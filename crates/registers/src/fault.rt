@@ -4,8 +4,10 @@ ghost use Rattle.registers.specs.Faults as Faults;
 ghost use Rattle.registers.specs.Faults.{refusal_9, NumbersStand};
 
 use stage::StageFault;
+use std::error::Error;
+use std::fmt;
 
-#[derive(Clone, Copy)]
+#[derive(Clone, Copy, PartialEq, Eq, Debug)]
 pub enum ModuleFault {
     // 1: the offset is odd or above 3FE
     Outside { offset: u16 },
@@ -54,6 +56,28 @@ impl From<StageFault> for ModuleFault {
         ModuleFault::Stage(fault)
     }
 }
+
+// The number, and what is carried.
+impl fmt::Display for ModuleFault {
+    fn fmt<W: fmt::Write>(&self, f: &mut fmt::Formatter<W>) -> fmt::Result {
+        let number = self.number();
+        match *self {
+            ModuleFault::Outside { offset }
+            | ModuleFault::EmptyPlace { offset }
+            | ModuleFault::ReadOnly { offset }
+            | ModuleFault::UpperNotHeld { offset }
+            | ModuleFault::NotAdmitted { offset }
+            | ModuleFault::Blocked { offset } => write!(f, "{number} offset {offset:04X}"),
+            ModuleFault::NoChannel { channel } | ModuleFault::Stage(StageFault { channel }) => {
+                write!(f, "{number} channel {channel}")
+            }
+            ModuleFault::Readings { count } => write!(f, "{number} readings {count}"),
+            ModuleFault::ImageLength { bytes } => write!(f, "{number} bytes {bytes}"),
+        }
+    }
+}
+
+impl Error for ModuleFault {}
 
 // Each refusal has its own number and carries what it was made with.
 pub fn numbers_stand()

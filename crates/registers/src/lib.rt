@@ -6,7 +6,7 @@ pub mod map;
 pub mod place;
 
 pub use fault::ModuleFault;
-pub use map::{locate, map_stands};
+pub use map::{check_offset, locate, map_stands};
 pub use place::{
     ChannelValue, ChannelWord, GroupValue, ModuleValue, ModuleWord, Place, ValueRegister,
     WordRegister,

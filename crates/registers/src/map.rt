@@ -1,7 +1,7 @@
 // The register map: from an offset to what stands there.
-ghost use Rattle.std.specs.Prelude.{◌≡◌, ℕ, ◌<◌, IfOk};
+ghost use Rattle.std.specs.Prelude.{◌≡◌, ℕ, ◌<◌, ◌≤◌, IfOk, OnOk};
 ghost use Rattle.registers.specs.Offsets.{MapStands};
-ghost use Rattle.registers.specs.Map.{located, stands_in, module_rows, channel_rows, group_rows, place_at, Placed, SomePlaced};
+ghost use Rattle.registers.specs.Map.{checked, located, half_at, stands_in, module_rows, channel_rows, group_rows, place_at, Placed, SomePlaced};
 
 use crate::fault::ModuleFault;
 use crate::place::{
@@ -9,19 +9,25 @@ use crate::place::{
     WordRegister,
 };
 
+// Every word is at an even offset up to 3FE.
+pub fn check_offset(offset: u16) -> Result<(), ModuleFault>
+    ensures answer { result ≡ checked offset }
+    ensures within { OnOk result (offset ≤ 0x3FE) }
+{
+    if offset % 2 == 1 || offset > 0x3FE {
+        return Err(ModuleFault::Outside { offset });
+    }
+    Ok(())
+}
+
 // The place at an offset of a module with `count` channels.
 pub fn locate(offset: u16, count: usize) -> Result<Place, ModuleFault>
     ensures place { result ≡ located count offset }
     ensures placed { IfOk result (Placed count) }
     ensures within { IfOk result (Placed 12) }
 {
-    if offset % 2 == 1 || offset > 0x3FE {
-        return Err(ModuleFault::Outside { offset });
-    }
-    match find_place(offset, count) {
-        Some(place) => Ok(place),
-        None => Err(ModuleFault::EmptyPlace { offset }),
-    }
+    check_offset(offset)?;
+    find_place(offset, count).ok_or(ModuleFault::EmptyPlace { offset })
 }
 
 fn find_place(offset: u16, count: usize) -> Option<Place>
@@ -44,29 +50,39 @@ fn find_place(offset: u16, count: usize) -> Option<Place>
     channel_place(channel, inner % 0x30)
 }
 
+// A value stands at a multiple of 4, its upper half first.
+fn half_at(offset: u16, register: ValueRegister) -> Place
+    ensures { result ≡ half_at offset register }
+{
+    if offset % 4 == 0 {
+        Place::Upper(register)
+    } else {
+        Place::Lower(register)
+    }
+}
+
 fn module_place(offset: u16) -> Option<Place>
     ensures place { result ≡ stands_in module_rows offset }
     ensures placed { (n : ℕ) → SomePlaced n result }
 {
-    match offset {
-        0x00 => Some(Place::Word(WordRegister::Module(ModuleWord::Status))),
-        0x02 => Some(Place::Word(WordRegister::Module(ModuleWord::Control))),
-        0x04 => Some(Place::Word(WordRegister::Module(ModuleWord::EventStatus))),
-        0x06 => Some(Place::Word(WordRegister::Module(ModuleWord::EventMask))),
-        0x08 => Some(Place::Word(WordRegister::Module(ModuleWord::EventChannelStatus))),
-        0x0A => Some(Place::Word(WordRegister::Module(ModuleWord::EventChannelMask))),
-        0x14 => Some(Place::Upper(ValueRegister::Module(ModuleValue::VoltageRampSpeed))),
-        0x16 => Some(Place::Lower(ValueRegister::Module(ModuleValue::VoltageRampSpeed))),
-        0x1C => Some(Place::Upper(ValueRegister::Module(ModuleValue::VoltageMax))),
-        0x1E => Some(Place::Lower(ValueRegister::Module(ModuleValue::VoltageMax))),
-        0x20 => Some(Place::Upper(ValueRegister::Module(ModuleValue::CurrentMax))),
-        0x22 => Some(Place::Lower(ValueRegister::Module(ModuleValue::CurrentMax))),
-        0x30 => Some(Place::Upper(ValueRegister::Module(ModuleValue::Temperature))),
-        0x32 => Some(Place::Lower(ValueRegister::Module(ModuleValue::Temperature))),
-        0x3C => Some(Place::Word(WordRegister::Module(ModuleWord::PlacedChannels))),
-        0x3E => Some(Place::Word(WordRegister::Module(ModuleWord::DeviceClass))),
-        _ => None,
-    }
+    let word = |word| Place::Word(WordRegister::Module(word));
+    let half = |value| half_at(offset, ValueRegister::Module(value));
+    let place = match offset {
+        0x00 => word(ModuleWord::Status),
+        0x02 => word(ModuleWord::Control),
+        0x04 => word(ModuleWord::EventStatus),
+        0x06 => word(ModuleWord::EventMask),
+        0x08 => word(ModuleWord::EventChannelStatus),
+        0x0A => word(ModuleWord::EventChannelMask),
+        0x14 | 0x16 => half(ModuleValue::VoltageRampSpeed),
+        0x1C | 0x1E => half(ModuleValue::VoltageMax),
+        0x20 | 0x22 => half(ModuleValue::CurrentMax),
+        0x30 | 0x32 => half(ModuleValue::Temperature),
+        0x3C => word(ModuleWord::PlacedChannels),
+        0x3E => word(ModuleWord::DeviceClass),
+        _ => return None,
+    };
+    Some(place)
 }
 
 // The place at `inner` bytes from where the channel's block begins.
@@ -74,113 +90,45 @@ fn channel_place(channel: usize, inner: u16) -> Option<Place>
     ensures place { result ≡ stands_in (channel_rows channel) inner }
     ensures placed { (n : ℕ) → channel < n → SomePlaced n result }
 {
-    match inner {
-        0x00 => Some(Place::Word(WordRegister::Channel {
-            channel,
-            word: ChannelWord::Status,
-        })),
-        0x02 => Some(Place::Word(WordRegister::Channel {
-            channel,
-            word: ChannelWord::Control,
-        })),
-        0x04 => Some(Place::Word(WordRegister::Channel {
-            channel,
-            word: ChannelWord::EventStatus,
-        })),
-        0x06 => Some(Place::Word(WordRegister::Channel {
-            channel,
-            word: ChannelWord::EventMask,
-        })),
-        0x08 => Some(Place::Upper(ValueRegister::Channel {
-            channel,
-            value: ChannelValue::VoltageSet,
-        })),
-        0x0A => Some(Place::Lower(ValueRegister::Channel {
-            channel,
-            value: ChannelValue::VoltageSet,
-        })),
-        0x0C => Some(Place::Upper(ValueRegister::Channel {
-            channel,
-            value: ChannelValue::CurrentSet,
-        })),
-        0x0E => Some(Place::Lower(ValueRegister::Channel {
-            channel,
-            value: ChannelValue::CurrentSet,
-        })),
-        0x10 => Some(Place::Upper(ValueRegister::Channel {
-            channel,
-            value: ChannelValue::VoltageMeasure,
-        })),
-        0x12 => Some(Place::Lower(ValueRegister::Channel {
-            channel,
-            value: ChannelValue::VoltageMeasure,
-        })),
-        0x14 => Some(Place::Upper(ValueRegister::Channel {
-            channel,
-            value: ChannelValue::CurrentMeasure,
-        })),
-        0x16 => Some(Place::Lower(ValueRegister::Channel {
-            channel,
-            value: ChannelValue::CurrentMeasure,
-        })),
-        0x18 => Some(Place::Upper(ValueRegister::Channel {
-            channel,
-            value: ChannelValue::VoltageBounds,
-        })),
-        0x1A => Some(Place::Lower(ValueRegister::Channel {
-            channel,
-            value: ChannelValue::VoltageBounds,
-        })),
-        0x1C => Some(Place::Upper(ValueRegister::Channel {
-            channel,
-            value: ChannelValue::CurrentBounds,
-        })),
-        0x1E => Some(Place::Lower(ValueRegister::Channel {
-            channel,
-            value: ChannelValue::CurrentBounds,
-        })),
-        0x20 => Some(Place::Upper(ValueRegister::Channel {
-            channel,
-            value: ChannelValue::VoltageNominal,
-        })),
-        0x22 => Some(Place::Lower(ValueRegister::Channel {
-            channel,
-            value: ChannelValue::VoltageNominal,
-        })),
-        0x24 => Some(Place::Upper(ValueRegister::Channel {
-            channel,
-            value: ChannelValue::CurrentNominal,
-        })),
-        0x26 => Some(Place::Lower(ValueRegister::Channel {
-            channel,
-            value: ChannelValue::CurrentNominal,
-        })),
-        _ => None,
-    }
+    let word = |word| Place::Word(WordRegister::Channel { channel, word });
+    let half = |value| half_at(inner, ValueRegister::Channel { channel, value });
+    let place = match inner {
+        0x00 => word(ChannelWord::Status),
+        0x02 => word(ChannelWord::Control),
+        0x04 => word(ChannelWord::EventStatus),
+        0x06 => word(ChannelWord::EventMask),
+        0x08 | 0x0A => half(ChannelValue::VoltageSet),
+        0x0C | 0x0E => half(ChannelValue::CurrentSet),
+        0x10 | 0x12 => half(ChannelValue::VoltageMeasure),
+        0x14 | 0x16 => half(ChannelValue::CurrentMeasure),
+        0x18 | 0x1A => half(ChannelValue::VoltageBounds),
+        0x1C | 0x1E => half(ChannelValue::CurrentBounds),
+        0x20 | 0x22 => half(ChannelValue::VoltageNominal),
+        0x24 | 0x26 => half(ChannelValue::CurrentNominal),
+        _ => return None,
+    };
+    Some(place)
 }
 
 fn group_place(offset: u16) -> Option<Place>
     ensures place { result ≡ stands_in group_rows offset }
     ensures placed { (n : ℕ) → SomePlaced n result }
 {
-    match offset {
-        0x2A0 => Some(Place::Upper(ValueRegister::Group(GroupValue::Voltage))),
-        0x2A2 => Some(Place::Lower(ValueRegister::Group(GroupValue::Voltage))),
-        0x2A4 => Some(Place::Upper(ValueRegister::Group(GroupValue::Current))),
-        0x2A6 => Some(Place::Lower(ValueRegister::Group(GroupValue::Current))),
-        0x2A8 => Some(Place::Upper(ValueRegister::Group(GroupValue::VoltageBounds))),
-        0x2AA => Some(Place::Lower(ValueRegister::Group(GroupValue::VoltageBounds))),
-        0x2AC => Some(Place::Upper(ValueRegister::Group(GroupValue::CurrentBounds))),
-        0x2AE => Some(Place::Lower(ValueRegister::Group(GroupValue::CurrentBounds))),
-        0x2B0 => Some(Place::Upper(ValueRegister::Group(GroupValue::Emergency))),
-        0x2B2 => Some(Place::Lower(ValueRegister::Group(GroupValue::Emergency))),
-        0x2B4 => Some(Place::Upper(ValueRegister::Group(GroupValue::OnOff))),
-        0x2B6 => Some(Place::Lower(ValueRegister::Group(GroupValue::OnOff))),
-        _ => None,
-    }
+    let half = |value| half_at(offset, ValueRegister::Group(value));
+    let place = match offset {
+        0x2A0 | 0x2A2 => half(GroupValue::Voltage),
+        0x2A4 | 0x2A6 => half(GroupValue::Current),
+        0x2A8 | 0x2AA => half(GroupValue::VoltageBounds),
+        0x2AC | 0x2AE => half(GroupValue::CurrentBounds),
+        0x2B0 | 0x2B2 => half(GroupValue::Emergency),
+        0x2B4 | 0x2B6 => half(GroupValue::OnOff),
+        _ => return None,
+    };
+    Some(place)
 }
 
 // Each register stands at its own offset, and there only.
+#[tactic(auto, using(crate::proofs::Standing::map_stands))]
 pub fn map_stands()
     ensures { MapStands }
 {}

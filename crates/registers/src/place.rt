@@ -2,7 +2,7 @@
 ghost use Rattle.std.specs.Prelude.{◌≡◌};
 ghost use Rattle.registers.specs.Rights as Rights;
 
-#[derive(Clone, Copy)]
+#[derive(Clone, Copy, PartialEq, Eq, Debug)]
 pub enum ModuleWord {
     Status,
     Control,
@@ -14,7 +14,7 @@ pub enum ModuleWord {
     DeviceClass,
 }
 
-#[derive(Clone, Copy)]
+#[derive(Clone, Copy, PartialEq, Eq, Debug)]
 pub enum ModuleValue {
     VoltageRampSpeed,
     VoltageMax,
@@ -22,7 +22,7 @@ pub enum ModuleValue {
     Temperature,
 }
 
-#[derive(Clone, Copy)]
+#[derive(Clone, Copy, PartialEq, Eq, Debug)]
 pub enum ChannelWord {
     Status,
     Control,
@@ -30,7 +30,7 @@ pub enum ChannelWord {
     EventMask,
 }
 
-#[derive(Clone, Copy)]
+#[derive(Clone, Copy, PartialEq, Eq, Debug)]
 pub enum ChannelValue {
     VoltageSet,
     CurrentSet,
@@ -43,7 +43,7 @@ pub enum ChannelValue {
 }
 
 // A fixed group: one register for all channels.
-#[derive(Clone, Copy)]
+#[derive(Clone, Copy, PartialEq, Eq, Debug)]
 pub enum GroupValue {
     Voltage,
     Current,
@@ -54,21 +54,21 @@ pub enum GroupValue {
 }
 
 // A register of one word.
-#[derive(Clone, Copy)]
+#[derive(Clone, Copy, PartialEq, Eq, Debug)]
 pub enum WordRegister {
     Module(ModuleWord),
     Channel { channel: usize, word: ChannelWord },
 }
 
 // A register of two words, the upper half first.
-#[derive(Clone, Copy)]
+#[derive(Clone, Copy, PartialEq, Eq, Debug)]
 pub enum ValueRegister {
     Module(ModuleValue),
     Channel { channel: usize, value: ChannelValue },
     Group(GroupValue),
 }
 
-#[derive(Clone, Copy)]
+#[derive(Clone, Copy, PartialEq, Eq, Debug)]
 pub enum Place {
     Word(WordRegister),
     Upper(ValueRegister),
@@ -81,8 +81,7 @@ impl Place {
     {
         match self {
             Place::Word(register) => register.writable(),
-            Place::Upper(register) => register.writable(),
-            Place::Lower(register) => register.writable(),
+            Place::Upper(register) | Place::Lower(register) => register.writable(),
         }
     }
 }
@@ -92,14 +91,8 @@ impl WordRegister {
         ensures { result ≡ Rights.word_writable self }
     {
         match self {
-            WordRegister::Module(ModuleWord::Status) => false,
-            WordRegister::Module(ModuleWord::PlacedChannels) => false,
-            WordRegister::Module(ModuleWord::DeviceClass) => false,
-            WordRegister::Channel {
-                channel: _,
-                word: ChannelWord::Status,
-            } => false,
-            _ => true,
+            WordRegister::Module(word) => word.writable(),
+            WordRegister::Channel { channel: _, word } => !matches!(word, ChannelWord::Status),
         }
     }
 }
@@ -109,21 +102,21 @@ impl ValueRegister {
         ensures { result ≡ Rights.value_writable self }
     {
         match self {
-            ValueRegister::Module(value) => value.writable(),
+            ValueRegister::Module(value) => matches!(value, ModuleValue::VoltageRampSpeed),
             ValueRegister::Channel { channel: _, value } => value.writable(),
             ValueRegister::Group(_) => true,
         }
     }
 }
 
-impl ModuleValue {
+impl ModuleWord {
     fn writable(self) -> bool
-        ensures { result ≡ Rights.module_value_writable self }
+        ensures { result ≡ Rights.module_word_writable self }
     {
-        match self {
-            ModuleValue::VoltageRampSpeed => true,
-            ModuleValue::VoltageMax | ModuleValue::CurrentMax | ModuleValue::Temperature => false,
-        }
+        !matches!(
+            self,
+            ModuleWord::Status | ModuleWord::PlacedChannels | ModuleWord::DeviceClass
+        )
     }
 }
 
@@ -131,11 +124,12 @@ impl ChannelValue {
     fn writable(self) -> bool
         ensures { result ≡ Rights.channel_value_writable self }
     {
-        match self {
-            ChannelValue::VoltageSet | ChannelValue::CurrentSet => true,
-            ChannelValue::VoltageBounds | ChannelValue::CurrentBounds => true,
-            ChannelValue::VoltageMeasure | ChannelValue::CurrentMeasure => false,
-            ChannelValue::VoltageNominal | ChannelValue::CurrentNominal => false,
-        }
+        matches!(
+            self,
+            ChannelValue::VoltageSet
+                | ChannelValue::CurrentSet
+                | ChannelValue::VoltageBounds
+                | ChannelValue::CurrentBounds
+        )
     }
 }

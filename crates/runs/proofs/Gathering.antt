@@ -35,7 +35,7 @@ new_gathered m n = ap (with_channel_events (new_table m)) (ap (bit_or 0) (quiet 
 
 pub wrote_gathered : (s : State) (o w : ℕ) → Gathered (write_state s o w)
 wrote_gathered s o w =
-    let t = served (count s) s.table o w (requested (count s) s.table o w) in
+    let t = served (count s) s.table (requested (count s) s.table o w) in
     ap (λ (n : ℕ). collected n (collected (count s) t)) (count_after s o w) ∙ twice (count s) t
 
 pub round_gathered : (b : Bool) (s : State) (x : Conditions) (rs : List Reading) → length rs ≡ count s → Gathered (round_state b s x rs)

@@ -116,12 +116,6 @@ call_leads b s (writes o w) = record { truth = (refl, tt); arrives = refl }
 call_leads b s (blocks xs) = whole_block_leads b s xs
 call_leads b s (rounds x rs) = record { truth = (refl, tt); arrives = refl }
 
-pub after_call : (b : Bool) (s : State) (a : Asked) → after b s (happened a (call_said s a)) ≡ call_state b s a
-after_call b s a = (call_leads b s a).arrives
-
-pub call_true : (b : Bool) (s : State) (a : Asked) → Truthful b s (happened a (call_said s a))
-call_true b s a = (call_leads b s a).truth
-
 pub run_leads : (b : Bool) (s : State) (xs : List Asked) → Leads b s (history xs (run_told b s xs)) (run_state b s xs)
 run_leads b s [] = record { truth = tt; arrives = refl }
 run_leads b s (a ∷ xs) =
@@ -148,9 +142,6 @@ history_take b s q xs = ap (history (take q xs)) (told_take b s q xs)
 pub after_run_take : (b : Bool) (s : State) (q : ℕ) (xs : List Asked)
     → after b s (history (take q xs) (take q (run_told b s xs))) ≡ run_state b s (take q xs)
 after_run_take b s q xs = ap (after b s) (history_take b s q xs) ∙ after_run b s (take q xs)
-
-pub run_take_true : (b : Bool) (s : State) (q : ℕ) (xs : List Asked) → Truthful b s (history (take q xs) (take q (run_told b s xs)))
-run_take_true b s q xs = rw (told_take b s q xs) (run_true b s (take q xs))
 
 -- ---- the first events
 

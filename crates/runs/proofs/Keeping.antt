@@ -1,5 +1,5 @@
 -- What every event keeps of a run: g is the history so far and s the state after it.
-use Rattle.std.proofs.Common.{◌≡◌, ℕ, ◌+◌, ◌<◌, ◌≤◌, true, false, List, [], ◌∷◌, ◌++◌, length, get_or, Ok, Result, sym, refl, ap, ◌∙◌, subst, inl, inr, arith}
+use Rattle.std.proofs.Common.{◌≡◌, ℕ, ◌+◌, ◌<◌, ◌≤◌, true, false, List, [], ◌∷◌, ◌++◌, length, get_or, Some, Ok, Result, sym, refl, ap, ◌∙◌, subst, inl, inr, arith}
 use lib.Ieee.{Float, binary32, to_bits}
 use Rattle.std.proofs.lemmas.List.{length-append, get_or_append_left}
 use Rattle.std.proofs.lemmas.Bool.{both_ways, cases_lt}
@@ -8,7 +8,7 @@ use Rattle.values.specs.Model.{nominal_voltage}
 use Rattle.values.specs.Words.{pattern, value_of, upper_word, lower_word}
 use Rattle.registers.specs.declared.fault.ModuleFault.{ModuleFault}
 use Rattle.table.specs.declared.records.Channel.{Channel}
-use Rattle.table.specs.declared.records.Held.TheVariants.{Upper}
+use Rattle.table.specs.Parts.{half}
 use Rattle.module.specs.State.{State}
 use Rattle.module.proofs.WriteLawsValues.{bits_back}
 use Rattle.runs.specs.History.{Event, write}
@@ -101,7 +101,7 @@ words_of low high v u w e fits U W =
     (omega (arith, same), omega (arith, same))
 
 -- a write that completes a value joins it
-pub joined_new : (g : List Event) (s : State) (o w k : ℕ) (v : Float) → ((a u : ℕ) → s.table.held ≡ Upper a u → HeldFrom g a u) → Completes s o w k v → Joined (more g (write o w (Ok tt))) k v
+pub joined_new : (g : List Event) (s : State) (o w k : ℕ) (v : Float) → ((a u : ℕ) → s.table.held ≡ Some (half a u) → HeldFrom g a u) → Completes s o w k v → Joined (more g (write o w (Ok tt))) k v
 joined_new g s o w k v held c =
     let e = write o w (Ok tt) in
     let h = held o c.upper c.held in

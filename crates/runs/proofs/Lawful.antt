@@ -1,5 +1,5 @@
 -- The law over every run: it holds of a new module, and every event keeps it.
-use Rattle.std.proofs.Common.{◌≡◌, ℕ, zero, suc, ◌+◌, ◌<◌, ◌≤◌, Bool, true, List, [], ◌∷◌, length, get_or, replicate, Ok, Err, Result, sym, refl, ap, ◌∙◌, subst, inl, inr, arith}
+use Rattle.std.proofs.Common.{◌≡◌, ℕ, zero, suc, ◌+◌, ◌<◌, ◌≤◌, Bool, true, List, [], ◌∷◌, length, get_or, replicate, Some, None, Option, Ok, Err, Result, sym, refl, ap, ◌∙◌, subst, inl, inr, arith}
 use lib.Seq.{take-append-le}
 use Rattle.std.proofs.lemmas.List.{take_all, length-replicate}
 use Rattle.std.proofs.lemmas.Bool.{cases_lt}
@@ -8,10 +8,10 @@ use Rattle.values.specs.Ranges as Ranges
 use Rattle.registers.specs.declared.fault.ModuleFault.{ModuleFault}
 use Rattle.table.specs.declared.records.Channel.{Channel}
 use Rattle.table.specs.declared.records.Conditions.{Conditions}
-use Rattle.table.specs.declared.records.Held.{Held}
-use Rattle.table.specs.declared.records.Held.TheVariants.{Nothing, Upper}
+use Rattle.table.specs.declared.records.Half.{Half}
 use Rattle.table.specs.declared.round.Reading.{Reading}
 use Rattle.table.specs.New.{new_channel}
+use Rattle.table.specs.Parts.{half}
 use Rattle.table.specs.Reads.{channel_of, no_channel}
 use Rattle.table.specs.Round.{excess_of}
 use Rattle.table.specs.Writes.{written_answer}
@@ -28,11 +28,11 @@ use Rattle.runs.proofs.Keeping.{more, more_length, more_old, more_new, limit_mor
 use Rattle.runs.proofs.Wrote.{Wrote, wrote, wrote_held, level_falls}
 use Rattle.runs.proofs.Rounded.{round_refused, round_each, round_held, round_count, round_whole, round_limited, round_voltage, round_kill, round_off, round_down, round_kills}
 
-no_half : (x : Held) (a u : ℕ) → x ≡ Nothing → x ≡ Upper a u → ⊥
+no_half : (x : Option Half) (a u : ℕ) → x ≡ None → x ≡ Some (half a u) → ⊥
 no_half x a u p q = let z : ◌≡◌ {A = ℕ} 0 1 = cc in omega arith
 
-one_half : (x : Held) (a u c d : ℕ) → x ≡ Upper a u → x ≡ Upper c d → (a ≡ c) × (u ≡ d)
-one_half x a u c d p q = (cc, cc)
+one_half : (x : Option Half) (a u c d : ℕ) → x ≡ Some (half a u) → x ≡ Some (half c d) → (a ≡ c) × (u ≡ d)
+one_half x a u c d p q = let e : half a u ≡ half c d = cc in (ap (λ (h : Half). h.awaited) e, ap (λ (h : Half). h.word) e)
 
 module _ (b : Bool) (m : Model) (n : ℕ) where
   -- what holds after the history g in the state s
@@ -40,7 +40,7 @@ module _ (b : Bool) (m : Model) (n : ℕ) where
     pub whole : Whole s
     pub counted : count s ≡ n
     pub gathered : Gathered s
-    pub held : (a u : ℕ) → s.table.held ≡ Upper a u → HeldFrom g a u
+    pub held : (a u : ℕ) → s.table.held ≡ Some (half a u) → HeldFrom g a u
     pub values : (k : ℕ) → k < n → FromHalves g k (voltage_set s k)
     pub limited : (k : ℕ) → level_of s k ≤ latest_limit 0 g
     pub killed : (i k : ℕ) → i < length g → k < n → Kills b (state_at b m n g i) (get_or g i no_event) k → Down g i k (channel_of s.table k) (level_of s k)

@@ -7,5 +7,4 @@ pub mod Safety
 pub mod Sources
 pub mod Telling
 pub mod Touching
-pub mod Turning
 pub mod Wrote

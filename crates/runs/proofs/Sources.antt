@@ -19,14 +19,30 @@ use Rattle.registers.specs.Map.{channel_begins, located}
 use Rattle.registers.specs.Offsets.{offset_of, word_offset, value_offset}
 use Rattle.registers.specs.Rights.{writable}
 use Rattle.registers.proofs.Standing.{map_stands}
-use Rattle.table.specs.declared.records.Held.{Held}
-use Rattle.table.specs.declared.records.Held.TheVariants.{Nothing, Upper}
+use Rattle.table.specs.declared.records.Half.{Half}
 use Rattle.table.specs.declared.records.Table.{Table}
 use Rattle.table.specs.declared.order.Order.{Order}
 use Rattle.table.specs.declared.order.Order.TheVariants as order
+use Rattle.table.specs.declared.setting.Setting.{Setting}
+use Rattle.table.specs.declared.setting.Setting.TheVariants as setting
 use Rattle.table.specs.declared.writing.Request.TheVariants as request
 use Rattle.table.specs.Orders.{word_order, value_order}
+use Rattle.table.specs.Parts.{half}
 use Rattle.table.specs.Writes.{carries, completes, request_at, request_in, requested}
+
+-- the offsets whose writes complete a value of channel k, and of a group
+
+abbrev pub own_offset : ℕ → Setting → ℕ
+own_offset k (setting.Voltage v) = channel_begins k + 0x08 + 2
+own_offset k (setting.Current v) = channel_begins k + 0x0C + 2
+own_offset k (setting.VoltageBounds v) = channel_begins k + 0x18 + 2
+own_offset k (setting.CurrentBounds v) = channel_begins k + 0x1C + 2
+
+abbrev pub group_offset : Setting → ℕ
+group_offset (setting.Voltage v) = 0x2A2
+group_offset (setting.Current v) = 0x2A6
+group_offset (setting.VoltageBounds v) = 0x2AA
+group_offset (setting.CurrentBounds v) = 0x2AE
 
 -- the offset whose write completes an order
 abbrev pub order_offset : Order → ℕ
@@ -39,14 +55,8 @@ order_offset (order.RampSpeed v) = 0x16
 order_offset (order.ChannelControl k v) = channel_begins k + 0x02
 order_offset (order.ClearChannelEvents k v) = channel_begins k + 0x04
 order_offset (order.ChannelEventMask k v) = channel_begins k + 0x06
-order_offset (order.VoltageSet k v) = channel_begins k + 0x08 + 2
-order_offset (order.CurrentSet k v) = channel_begins k + 0x0C + 2
-order_offset (order.VoltageBounds k v) = channel_begins k + 0x18 + 2
-order_offset (order.CurrentBounds k v) = channel_begins k + 0x1C + 2
-order_offset (order.GroupVoltage v) = 0x2A2
-order_offset (order.GroupCurrent v) = 0x2A6
-order_offset (order.GroupVoltageBounds v) = 0x2AA
-order_offset (order.GroupCurrentBounds v) = 0x2AE
+order_offset (order.ChannelSetting k x) = own_offset k x
+order_offset (order.GroupSetting x) = group_offset x
 order_offset (order.GroupEmergency d) = 0x2B2
 order_offset (order.GroupSwitch d) = 0x2B6
 
@@ -61,16 +71,17 @@ MadeOfWord (order.RampSpeed v) w = Unit {0}
 MadeOfWord (order.ChannelControl k v) w = v ≡ w
 MadeOfWord (order.ClearChannelEvents k v) w = Unit {0}
 MadeOfWord (order.ChannelEventMask k v) w = Unit {0}
-MadeOfWord (order.VoltageSet k v) w = ⊥
-MadeOfWord (order.CurrentSet k v) w = Unit {0}
-MadeOfWord (order.VoltageBounds k v) w = Unit {0}
-MadeOfWord (order.CurrentBounds k v) w = Unit {0}
-MadeOfWord (order.GroupVoltage v) w = ⊥
-MadeOfWord (order.GroupCurrent v) w = Unit {0}
-MadeOfWord (order.GroupVoltageBounds v) w = Unit {0}
-MadeOfWord (order.GroupCurrentBounds v) w = Unit {0}
+MadeOfWord (order.ChannelSetting k x) w = ⊥
+MadeOfWord (order.GroupSetting x) w = ⊥
 MadeOfWord (order.GroupEmergency d) w = Unit {0}
 MadeOfWord (order.GroupSwitch d) w = ⊥
+
+-- a set voltage is the value of its two halves
+abbrev pub MadeSetting : Setting → ℕ → ℕ → Type 0
+MadeSetting (setting.Voltage v) u w = v ≡ value_of u w
+MadeSetting (setting.Current v) u w = Unit {0}
+MadeSetting (setting.VoltageBounds v) u w = Unit {0}
+MadeSetting (setting.CurrentBounds v) u w = Unit {0}
 
 -- what an order made of an upper half u and a lower half w holds
 abbrev pub MadeOfHalves : Order → ℕ → ℕ → Type 0
@@ -83,14 +94,8 @@ MadeOfHalves (order.RampSpeed v) u w = Unit {0}
 MadeOfHalves (order.ChannelControl k v) u w = ⊥
 MadeOfHalves (order.ClearChannelEvents k v) u w = Unit {0}
 MadeOfHalves (order.ChannelEventMask k v) u w = Unit {0}
-MadeOfHalves (order.VoltageSet k v) u w = v ≡ value_of u w
-MadeOfHalves (order.CurrentSet k v) u w = Unit {0}
-MadeOfHalves (order.VoltageBounds k v) u w = Unit {0}
-MadeOfHalves (order.CurrentBounds k v) u w = Unit {0}
-MadeOfHalves (order.GroupVoltage v) u w = v ≡ value_of u w
-MadeOfHalves (order.GroupCurrent v) u w = Unit {0}
-MadeOfHalves (order.GroupVoltageBounds v) u w = Unit {0}
-MadeOfHalves (order.GroupCurrentBounds v) u w = Unit {0}
+MadeOfHalves (order.ChannelSetting k x) u w = MadeSetting x u w
+MadeOfHalves (order.GroupSetting x) u w = MadeSetting x u w
 MadeOfHalves (order.GroupEmergency d) u w = Unit {0}
 MadeOfHalves (order.GroupSwitch d) u w = d ≡ u * 65536 + w
 
@@ -137,28 +142,28 @@ value_from (vr.Group gv.Emergency) u w = (refl, tt)
 value_from (vr.Group gv.OnOff) u w = (refl, refl)
 
 -- the order x was asked for by a write of the word w at the offset o, with the half h held
-pub data Source (h : Held) (o w : ℕ) (x : Order) : Type 0 where
+pub data Source (h : Option Half) (o w : ℕ) (x : Order) : Type 0 where
   one_word : o ≡ order_offset x → MadeOfWord x w → Source h o w x
-  two_halves : (u : ℕ) → h ≡ Upper o u → o ≡ order_offset x → MadeOfHalves x u w → Source h o w x
+  two_halves : (u : ℕ) → h ≡ Some (half o u) → o ≡ order_offset x → MadeOfHalves x u w → Source h o w x
 
 no_order : (f : ModuleFault) (x : Order) → Err f ≡ Ok (request.Carry x) → ⊥
 no_order f x e = let z : ◌≡◌ {A = ℕ} 0 1 = cc in omega arith
 
-module _ (h : Held) (o w : ℕ) (x : Order) where
+module _ (h : Option Half) (o w : ℕ) (x : Order) where
   from_word : (y : Option Order) → FromWord y o w → carries o y ≡ Ok (request.Carry x) → Source h o w x
   from_word None f e = absurd (no_order (refusal_3 o) x e)
   from_word (Some y) f e = let same : y ≡ x = cc in subst (Source h o w) same (one_word f.0 f.1)
 
-  from_half : (u : ℕ) → h ≡ Upper o u → (y : Option Order) → FromHalf y o u w → carries o y ≡ Ok (request.Carry x) → Source h o w x
+  from_half : (u : ℕ) → h ≡ Some (half o u) → (y : Option Order) → FromHalf y o u w → carries o y ≡ Ok (request.Carry x) → Source h o w x
   from_half u held None f e = absurd (no_order (refusal_3 o) x e)
   from_half u held (Some y) f e = let same : y ≡ x = cc in subst (Source h o w) same (two_halves u held f.0 f.1)
 
-  from_held : (g : Held) → h ≡ g → (r : ValueRegister) → o ≡ value_offset r + 2 → completes g o (λ u. value_order r u w) ≡ Ok (request.Carry x) → Source h o w x
-  from_held Nothing is r at e = absurd (no_order (refusal_4 o) x e)
-  from_held (Upper a u) is r at e = by_test (eqb a o) refl e
+  from_held : (g : Option Half) → h ≡ g → (r : ValueRegister) → o ≡ value_offset r + 2 → completes g o (λ u. value_order r u w) ≡ Ok (request.Carry x) → Source h o w x
+  from_held None is r at e = absurd (no_order (refusal_4 o) x e)
+  from_held (Some kept) is r at e = by_test (eqb kept.awaited o) refl e
     where
-      by_test : (b : Bool) → eqb a o ≡ b → cond b (carries o (value_order r u w)) (Err (refusal_4 o)) ≡ Ok (request.Carry x) → Source h o w x
-      by_test true t e = from_half u (is ∙ ap (λ (i : ℕ). Upper i u) (eqb-true a o t)) (value_order r u w) (subst (λ (i : ℕ). FromHalf (value_order r u w) i u w) (sym at) (value_from r u w)) e
+      by_test : (b : Bool) → eqb kept.awaited o ≡ b → cond b (carries o (value_order r kept.word w)) (Err (refusal_4 o)) ≡ Ok (request.Carry x) → Source h o w x
+      by_test true t e = from_half kept.word (is ∙ ap (λ (i : ℕ). Some (half i kept.word)) (eqb-true kept.awaited o t)) (value_order r kept.word w) (subst (λ (i : ℕ). FromHalf (value_order r kept.word w) i kept.word w) (sym at) (value_from r kept.word w)) e
       by_test false t e = absurd (no_order (refusal_4 o) x e)
 
   from_place : (p : Place) → o ≡ offset_of p → request_at h p o w ≡ Ok (request.Carry x) → Source h o w x

@@ -8,6 +8,8 @@ use Rattle.table.specs.declared.change.Change.{Change}
 use Rattle.table.specs.declared.change.Change.TheVariants as change
 use Rattle.table.specs.declared.order.Order.{Order}
 use Rattle.table.specs.declared.order.Order.TheVariants as order
+use Rattle.table.specs.declared.setting.Setting.{Setting}
+use Rattle.table.specs.declared.setting.Setting.TheVariants as setting
 use Rattle.table.specs.Changes.{changed}
 use Rattle.table.specs.Carrying.{changed_at, changed_all, control_change, do_clear, cleared, obeyed, error_noted}
 use Rattle.table.specs.Orders.{Subject, of_module, of_channel, of_all, sets_emergency, sets_on}
@@ -37,7 +39,7 @@ module _ (n : ℕ) (t : Table) (k : ℕ) (low : k < n) (few : n ≤ 12) (records
 
 -- the order x sets the voltage v for channel k
 abbrev pub SetsVoltage : Order → ℕ → Float → Type 0
-SetsVoltage x k v = (x ≡ order.VoltageSet k v) ⊎ (x ≡ order.GroupVoltage v)
+SetsVoltage x k v = (x ≡ order.ChannelSetting k (setting.Voltage v)) ⊎ (x ≡ order.GroupSetting (setting.Voltage v))
 
 -- the order x switches channel k on
 abbrev pub TurnsOn : Order → ℕ → Type 0
@@ -92,6 +94,18 @@ module _ (n : ℕ) (t : Table) (k : ℕ) (low : k < n) (few : n ≤ 12) (records
   by_clear w true e = by_all (order.ModuleControl w) change.Clear (record { voltage = inl refl; kill = inr (w, refl, e); switch = inl refl })
   by_clear w false e = untouched (order.ModuleControl w) k c
 
+  by_own : (j : ℕ) (x : Setting) → j ≡ k → Touched (order.ChannelSetting j x) k c (changed c (change.Set x))
+  by_own j (setting.Voltage v) e = record { voltage = inr (v, refl, inl (ap (λ (i : ℕ). order.ChannelSetting i (setting.Voltage v)) e)); kill = inl refl; switch = inl refl }
+  by_own j (setting.Current v) e = quiet _ k c _ refl refl refl
+  by_own j (setting.VoltageBounds v) e = quiet _ k c _ refl refl refl
+  by_own j (setting.CurrentBounds v) e = quiet _ k c _ refl refl refl
+
+  by_group : (x : Setting) → Touched (order.GroupSetting x) k c (changed c (change.Set x))
+  by_group (setting.Voltage v) = record { voltage = inr (v, refl, inr refl); kill = inl refl; switch = inl refl }
+  by_group (setting.Current v) = quiet _ k c _ refl refl refl
+  by_group (setting.VoltageBounds v) = quiet _ k c _ refl refl refl
+  by_group (setting.CurrentBounds v) = quiet _ k c _ refl refl refl
+
   pub touched : (x : Order) → Touched x k c (channel_of (obeyed n t x) k)
   touched (order.ModuleControl w) = by_clear w (do_clear w) refl
   touched (order.ClearModuleEvents w) = untouched _ k c
@@ -102,14 +116,8 @@ module _ (n : ℕ) (t : Table) (k : ℕ) (low : k < n) (few : n ≤ 12) (records
   touched (order.ChannelControl j w) = by_one _ j (control_change w) (λ e. by_control j w (sets_emergency w) (sets_on w) e refl refl)
   touched (order.ClearChannelEvents j w) = by_one _ j (change.ClearEvents w) (λ e. quiet _ k c _ refl refl refl)
   touched (order.ChannelEventMask j w) = by_one _ j (change.EventMask w) (λ e. quiet _ k c _ refl refl refl)
-  touched (order.VoltageSet j v) = by_one _ j (change.Voltage v) (λ e. record { voltage = inr (v, refl, inl (ap (λ (i : ℕ). order.VoltageSet i v) e)); kill = inl refl; switch = inl refl })
-  touched (order.CurrentSet j v) = by_one _ j (change.Current v) (λ e. quiet _ k c _ refl refl refl)
-  touched (order.VoltageBounds j v) = by_one _ j (change.VoltageBounds v) (λ e. quiet _ k c _ refl refl refl)
-  touched (order.CurrentBounds j v) = by_one _ j (change.CurrentBounds v) (λ e. quiet _ k c _ refl refl refl)
-  touched (order.GroupVoltage v) = by_all _ (change.Voltage v) (record { voltage = inr (v, refl, inr refl); kill = inl refl; switch = inl refl })
-  touched (order.GroupCurrent v) = by_all _ (change.Current v) (quiet _ k c _ refl refl refl)
-  touched (order.GroupVoltageBounds v) = by_all _ (change.VoltageBounds v) (quiet _ k c _ refl refl refl)
-  touched (order.GroupCurrentBounds v) = by_all _ (change.CurrentBounds v) (quiet _ k c _ refl refl refl)
+  touched (order.ChannelSetting j x) = by_one _ j (change.Set x) (by_own j x)
+  touched (order.GroupSetting x) = by_all _ (change.Set x) (by_group x)
   touched (order.GroupEmergency d) = by_all _ change.EmergencyOff (switched_off _ k c _ refl refl refl)
   touched (order.GroupSwitch d) = by_all _ (change.Switch (eqb d 1)) (by_switch d (eqb d 1) refl)
 

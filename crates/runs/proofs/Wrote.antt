@@ -1,6 +1,7 @@
 -- What a write does to channel k and to the held half.
-use Rattle.std.proofs.Common.{◌≡◌, ℕ, zero, suc, ◌+◌, ◌<◌, ◌≤◌, min, Bool, true, false, cond, not, ◌&&◌, ◌||◌, eqb, ◌⊎◌, List, [], ◌∷◌, length, get_or, take, set, replicate, Ok, Err, Result, sym, refl, ap, ◌∙◌, subst, inl, inr, arith}
+use Rattle.std.proofs.Common.{◌≡◌, ℕ, zero, suc, ◌+◌, ◌<◌, ◌≤◌, min, Bool, true, false, cond, not, ◌&&◌, ◌||◌, eqb, ◌⊎◌, List, [], ◌∷◌, length, get_or, take, set, replicate, Some, None, Option, Ok, Err, Result, sym, refl, ap, ◌∙◌, subst, inl, inr, arith}
 use lib.Ieee.{Float}
+use Rattle.std.specs.List.{list_any}
 use Rattle.std.proofs.lemmas.Bool.{eqb-true, or_parts}
 use Rattle.values.specs.Ranges.{voltage_admitted}
 use Rattle.values.specs.Words.{value_of}
@@ -8,22 +9,24 @@ use Rattle.registers.specs.declared.fault.ModuleFault.{ModuleFault}
 use Rattle.registers.specs.Faults.{refusal_5, refusal_6}
 use Rattle.registers.specs.Map.{channel_begins}
 use Rattle.table.specs.declared.records.Channel.{Channel}
-use Rattle.table.specs.declared.records.Held.{Held}
-use Rattle.table.specs.declared.records.Held.TheVariants.{Nothing, Upper}
+use Rattle.table.specs.declared.records.Half.{Half}
 use Rattle.table.specs.declared.records.Table.{Table}
 use Rattle.table.specs.declared.carrying.Drive.{Drive}
 use Rattle.table.specs.declared.carrying.Drive.TheVariants as drive
 use Rattle.table.specs.declared.order.Order.{Order}
 use Rattle.table.specs.declared.order.Order.TheVariants as order
+use Rattle.table.specs.declared.setting.Setting.TheVariants as setting
 use Rattle.table.specs.declared.writing.Request.{Request}
 use Rattle.table.specs.declared.writing.Request.TheVariants as request
 use Rattle.table.specs.Changes.{blocked, event_passes, switch_refused}
 use Rattle.table.specs.Carrying.{do_clear, module_passes, obeyed, error_noted, admitted, blocked_switch, drive_of, carried, carried_answer}
 use Rattle.table.specs.Orders.{Switching, turned_on, unswitched, emergency, subject_of, quantity_of, switching_of, sets_emergency, sets_on}
-use Rattle.table.specs.Reads.{channel_of, placed, any_of, no_channel}
+use Rattle.table.specs.Parts.{half}
+use Rattle.table.specs.Reads.{channel_of, placed, no_channel}
 use Rattle.table.specs.Writes.{requested, released, served, served_answer}
 use Rattle.module.specs.State.{State, count, done, driven_by, write_levels, write_state, write_answer}
 use Rattle.module.specs.WriteLaws.{Whole}
+use Rattle.module.proofs.WriteLawsRequests.{HoldsOwn, asked_own}
 use Rattle.module.proofs.WriteLawsOrders.{carried_within}
 use Rattle.runs.specs.History.{write}
 use Rattle.runs.specs.Law.{SwitchesOne, SwitchesOn}
@@ -56,11 +59,11 @@ level_falls ls (Err f) k = omega arith
 
 -- ---- blocking
 
-none_at : (P : Channel → Bool) (m k : ℕ) (cs : List Channel) → k < m → k < length cs → any_of P (take m cs) ≡ false → P (get_or cs k no_channel) ≡ false
+none_at : (P : Channel → Bool) (m k : ℕ) (cs : List Channel) → k < m → k < length cs → list_any P (take m cs) ≡ false → P (get_or cs k no_channel) ≡ false
 none_at P m k [] h l e = absurd (omega arith)
 none_at P zero k (c ∷ cs) h l e = absurd (omega arith)
-none_at P (suc m) zero (c ∷ cs) h l e = (or_parts (P c) (any_of P (take m cs)) e).0
-none_at P (suc m) (suc k) (c ∷ cs) h l e = none_at P m k cs (omega arith) (omega arith) (or_parts (P c) (any_of P (take m cs)) e).1
+none_at P (suc m) zero (c ∷ cs) h l e = (or_parts (P c) (list_any P (take m cs)) e).0
+none_at P (suc m) (suc k) (c ∷ cs) h l e = none_at P m k cs (omega arith) (omega arith) (or_parts (P c) (list_any P (take m cs)) e).1
 
 -- a channel that is off and may be switched on holds no kill
 no_kill : (passes : Bool) (c : Channel) → c.on ≡ false → switch_refused passes c ≡ false → c.kill ≡ false
@@ -88,7 +91,7 @@ module _ (n : ℕ) (t : Table) (x : Order) (o : ℕ) where
 -- the value v of channel k was completed by the lower half w at o
 pub record Completes (s : State) (o w k : ℕ) (v : Float) : Type 0 where
   pub upper : ℕ
-  pub held : s.table.held ≡ Upper o upper
+  pub held : s.table.held ≡ Some (half o upper)
   pub value : v ≡ value_of upper w
   pub fits : voltage_admitted s.table.model v ≡ true
   pub place : (o ≡ channel_begins k + 0x08 + 2) ⊎ (o ≡ 0x2A2)
@@ -111,11 +114,11 @@ module _ (s : State) (whole : Whole s) (o w k : ℕ) (low : k < count s) where
 
   -- an obeyed order that sets the voltage completed a value
 
-  own_value : (v : Float) → Source s.table.held o w (order.VoltageSet k v) → voltage_admitted s.table.model v ≡ true → Completes s o w k v
+  own_value : (v : Float) → Source s.table.held o w (order.ChannelSetting k (setting.Voltage v)) → voltage_admitted s.table.model v ≡ true → Completes s o w k v
   own_value v (one_word at m) fits = absurd m
   own_value v (two_halves u h at m) fits = record { upper = u; held = h; value = m; fits = fits; place = inl at }
 
-  group_value : (v : Float) → Source s.table.held o w (order.GroupVoltage v) → voltage_admitted s.table.model v ≡ true → Completes s o w k v
+  group_value : (v : Float) → Source s.table.held o w (order.GroupSetting (setting.Voltage v)) → voltage_admitted s.table.model v ≡ true → Completes s o w k v
   group_value v (one_word at m) fits = absurd m
   group_value v (two_halves u h at m) fits = record { upper = u; held = h; value = m; fits = fits; place = inr at }
 
@@ -161,7 +164,7 @@ module _ (s : State) (whole : Whole s) (o w k : ℕ) (low : k < count s) where
   group_free : (d : ℕ) → eqb d 1 ≡ true → c.on ≡ false → blocked_switch (count s) t (subject_of (order.GroupSwitch d)) (switching_of (order.GroupSwitch d)) ≡ false → c.kill ≡ false
   group_free d e off free =
       let is : switching_of (order.GroupSwitch d) ≡ turned_on = ap (λ (b : Bool). cond b turned_on unswitched) e in
-      let none : any_of (switch_refused (module_passes t)) (placed (count s) t) ≡ false = subst (λ (y : Switching). blocked_switch (count s) t (subject_of (order.GroupSwitch d)) y ≡ false) is free in
+      let none : list_any (switch_refused (module_passes t)) (placed (count s) t) ≡ false = subst (λ (y : Switching). blocked_switch (count s) t (subject_of (order.GroupSwitch d)) y ≡ false) is free in
       no_kill (module_passes t) c off (none_at (switch_refused (module_passes t)) (min (count s) 12) k s.table.channels (omega (arith, whole.few)) (omega (arith, whole.few, whole.records)) none)
 
   frees : (x : Order) → c.on ≡ false → blocked_switch (count s) t (subject_of x) (switching_of x) ≡ false → TurnsOn x k → c.kill ≡ false
@@ -187,8 +190,8 @@ module _ (s : State) (whole : Whole s) (o w k : ℕ) (low : k < count s) where
       record { voltage = inl same.0; kill = inl same.1; switch = λ off. inl (same.2 ∙ off) }
 
   by_request : (q : Result Request ModuleFault) → requested (count s) s.table o w ≡ q
-      → Wrote s o w k (done (served_answer (count s) s.table o q)) c (channel_of (served (count s) s.table o w q) k)
-  by_request (Ok request.Hold) e = idle s o w k _ c
+      → Wrote s o w k (done (served_answer (count s) s.table o q)) c (channel_of (served (count s) s.table q) k)
+  by_request (Ok (request.Hold u)) e = idle s o w k _ c
   by_request (Ok (request.Carry x)) e = by_ending x (carried (count s) t x) (carried_answer (count s) t x o) (source (count s) s.table o w x e) (ending (count s) t x o)
   by_request (Err f) e = idle s o w k _ c
 
@@ -198,13 +201,13 @@ module _ (s : State) (whole : Whole s) (o w k : ℕ) (low : k < count s) where
 -- ---- the held half after a write
 
 module _ (s : State) (o w : ℕ) where
-  abbrev HeldBy : Held → Result (Unit {0}) ModuleFault → Type 0
-  HeldBy h r = (h ≡ Nothing) ⊎ ((h ≡ Upper (o + 2) w) × (r ≡ Ok tt))
+  abbrev HeldBy : Option Half → Result (Unit {0}) ModuleFault → Type 0
+  HeldBy h r = (h ≡ None) ⊎ ((h ≡ Some (half (o + 2) w)) × (r ≡ Ok tt))
 
-  held_by : (q : Result Request ModuleFault) → HeldBy (served (count s) s.table o w q).held (done (served_answer (count s) s.table o q))
-  held_by (Ok request.Hold) = inr (refl, refl)
-  held_by (Ok (request.Carry x)) = inl (carried_within (count s) (released s.table) x).kept.0
-  held_by (Err f) = inl refl
+  held_by : (q : Result Request ModuleFault) → HoldsOwn o w q → HeldBy (served (count s) s.table q).held (done (served_answer (count s) s.table o q))
+  held_by (Ok (request.Hold u)) own = inr (ap Some own, refl)
+  held_by (Ok (request.Carry x)) own = inl (carried_within (count s) (released s.table) x).kept.0
+  held_by (Err f) own = inl refl
 
-  pub wrote_held : ((write_state s o w).table.held ≡ Nothing) ⊎ (((write_state s o w).table.held ≡ Upper (o + 2) w) × (write_answer s o w ≡ Ok tt))
-  wrote_held = held_by (requested (count s) s.table o w)
+  pub wrote_held : ((write_state s o w).table.held ≡ None) ⊎ (((write_state s o w).table.held ≡ Some (half (o + 2) w)) × (write_answer s o w ≡ Ok tt))
+  wrote_held = held_by (requested (count s) s.table o w) (asked_own s o w)

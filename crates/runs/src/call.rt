@@ -4,7 +4,7 @@ use registers::ModuleFault;
 use stage::Stage;
 use table::{Conditions, Reading};
 
-#[derive(Drop)]
+#[derive(Debug, Drop)]
 pub enum Call {
     Read {
         offset: u16,
@@ -22,7 +22,7 @@ pub enum Call {
     },
 }
 
-#[derive(Drop)]
+#[derive(Debug, Drop)]
 pub enum Answer {
     Read(Result<u16, ModuleFault>),
     Write(Result<(), ModuleFault>),
@@ -35,7 +35,7 @@ pub enum Answer {
 }
 
 // The answer to a call, and the levels that the stage then answers.
-#[derive(Drop)]
+#[derive(Debug, Drop)]
 pub struct Reply {
     pub answer: Answer,
     pub levels: Levels,

@@ -1,6 +1,6 @@
 // Makes a module and does every call in order.
 ghost use Rattle.std.specs.Prelude.{◌≡◌, map, length, IfOk};
-ghost use Rattle.module.specs.State.{state_of, new_state};
+ghost use Rattle.module.specs.State.{new_state};
 ghost use Rattle.runs.specs.Calls.{asked, told, call_state, call_said, call_told, said_by, run_state, run_told};
 ghost use Rattle.runs.specs.History.{history};
 ghost use Rattle.runs.specs.Law.{Safe, Tells};
@@ -12,8 +12,8 @@ use std::alloc::{AllocError, Global};
 use values::Model;
 
 fn answer<S: Stage>(module: &mut Module<S>, call: Call) -> Answer
-    ensures state { state_of S.levels «module».new ≡ call_state S.regulating (state_of S.levels «module».old) (asked call) }
-    ensures answer { said_by result ≡ call_said (state_of S.levels «module».old) (asked call) }
+    ensures state { «module».new ≡ call_state S.REGULATES «module».old (asked call) }
+    ensures answer { said_by result ≡ call_said «module».old (asked call) }
 {
     match call {
         Call::Read { offset } => Answer::Read(module.read(offset)),
@@ -31,8 +31,8 @@ fn answer<S: Stage>(module: &mut Module<S>, call: Call) -> Answer
 }
 
 fn reply<S: Stage>(module: &mut Module<S>, call: Call) -> Reply
-    ensures state { state_of S.levels «module».new ≡ call_state S.regulating (state_of S.levels «module».old) (asked call) }
-    ensures reply { told result ≡ call_told S.regulating (state_of S.levels «module».old) (asked call) }
+    ensures state { «module».new ≡ call_state S.REGULATES «module».old (asked call) }
+    ensures reply { told result ≡ call_told S.REGULATES «module».old (asked call) }
 {
     let answer = answer(module, call);
     Reply {
@@ -48,15 +48,14 @@ pub fn run<S: Stage + Drop>(
     model: Model,
     calls: Vec<Call>,
 ) -> Result<Outcome<S>, AllocError>
-    ensures state { IfOk result (λ x. state_of S.levels x.«module» ≡ run_state S.regulating (new_state model (length (S.levels stage))) (map asked calls.items)) }
-    ensures replies { IfOk result (λ x. map told x.replies.items ≡ run_told S.regulating (new_state model (length (S.levels stage))) (map asked calls.items)) }
-    ensures history { IfOk result (λ x. Tells S.regulating model (length (S.levels stage)) (map asked calls.items) (map told x.replies.items)) }
-    ensures safe { IfOk result (λ x. Safe S.regulating model (length (S.levels stage)) (history (map asked calls.items) (map told x.replies.items))) }
+    ensures state { IfOk result (λ x. x.«module» ≡ run_state S.REGULATES (new_state model (length (S.levels stage))) (map asked calls.items)) }
+    ensures replies { IfOk result (λ x. map told x.replies.items ≡ run_told S.REGULATES (new_state model (length (S.levels stage))) (map asked calls.items)) }
+    ensures history { IfOk result (λ x. Tells S.REGULATES model (length (S.levels stage)) (map asked calls.items) (map told x.replies.items)) }
+    ensures safe { IfOk result (λ x. Safe S.REGULATES model (length (S.levels stage)) (history (map asked calls.items) (map told x.replies.items))) }
 {
     let mut replies = Vec::with_capacity(heap, calls.len())?;
     let mut module = Module::new(stage, model);
-    let mut rest = calls.into_iter();
-    while let Some(call) = rest.next() {
+    for call in calls {
         replies.push_reserved(reply(&mut module, call));
     }
     Ok(Outcome { module, replies })

@@ -1,26 +1,30 @@
--- Lemmas on the calls and replies of a run, for a loop that has come to place i.
-use Rattle.std.proofs.Common.{◌≡◌, ℕ, ◌+◌, ◌<◌, ◌≤◌, Bool, cond, List, [], ◌∷◌, ◌++◌, map, length, get_or, take, drop, sym, ap, ◌∙◌}
-use mathlib.Core.List.{map-append}
-use Rattle.std.proofs.lemmas.List.{at_drop_more, at_drop_all, take_more}
+-- Lemmas on the entries of a listing.
+use Rattle.std.proofs.Common.{◌≡◌, Bool, List, [], ◌∷◌, map, length, sym, refl, ap, ◌∙◌, arith}
+use Rattle.std.proofs.lemmas.List.{length-map}
+use Rattle.std.specs.List.{zip}
+use Rattle.module.specs.State.{State}
 use Rattle.runs.specs.declared.call.Call.{Call}
 use Rattle.runs.specs.declared.call.Reply.{Reply}
-use Rattle.runs.specs.Calls.{told, said_by}
-use Rattle.script.specs.Listing.{echo_of, done_by, done_count}
+use Rattle.runs.specs.Calls.{Asked, Told, asked, told, call_state, run_told}
+use Rattle.script.specs.declared.listing.Echo.{Echo}
+use Rattle.script.specs.Listing.{echo_of, entry_of}
 
-abbrev done_of : List Reply → ℕ
-done_of rs = done_count (map told rs)
+run_length : (regulates : Bool) (s : State) (calls : List Asked) → length (run_told regulates s calls) ≡ length calls
+run_length regulates s [] = refl
+run_length regulates s (a ∷ calls) = let e = run_length regulates (call_state regulates s a) calls in omega arith
 
-pub count_more : (rs : List Reply) (i : ℕ) (x : Reply) (b : Bool) → i < length rs → x ≡ get_or rs i x → b ≡ done_by (said_by x.answer) → done_of (drop i rs) ≡ cond b 1 0 + done_of (drop (i + 1) rs)
-count_more rs i x b h here is =
-    at_drop_more done_of rs i x h
-    ∙ ap (λ (y : Reply). cond (done_by (said_by y.answer)) 1 0 + done_of (drop (i + 1) rs)) (sym here)
-    ∙ ap (λ (d : Bool). cond d 1 0 + done_of (drop (i + 1) rs)) (sym is)
+-- there is one reply for each call
+pub as_many : (regulates : Bool) (s : State) (cs : List Call) (rs : List Reply) → map told rs ≡ run_told regulates s (map asked cs) → length rs ≡ length (map echo_of cs)
+as_many regulates s cs rs e =
+    sym (length-map rs told) ∙ ap length e ∙ run_length regulates s (map asked cs) ∙ length-map cs asked ∙ sym (length-map cs echo_of)
 
-pub count_all : (rs : List Reply) (i : ℕ) → length rs ≤ i → done_of (drop i rs) ≡ 0
-count_all rs i h = at_drop_all done_of rs i h
+pub echoes : (es : List Echo) (rs : List Reply) → length rs ≡ length es → map (λ e. e.echo) (map entry_of (zip es rs)) ≡ es
+echoes [] rs h = refl
+echoes (e ∷ es) [] h = absurd (omega arith)
+echoes (e ∷ es) (r ∷ rs) h = ap (λ (xs : List Echo). e ∷ xs) (echoes es rs (omega arith))
 
-pub echoes_more : (cs : List Call) (i : ℕ) (x : Call) → i < length cs → x ≡ get_or cs i x → map echo_of (take (i + 1) cs) ≡ map echo_of (take i cs) ++ echo_of x ∷ []
-echoes_more cs i x h here =
-    ap (map echo_of) (take_more cs i x h)
-    ∙ map-append echo_of (take i cs) (get_or cs i x ∷ [])
-    ∙ ap (λ (y : Call). map echo_of (take i cs) ++ echo_of y ∷ []) (sym here)
+pub replies : (es : List Echo) (rs : List Reply) → length rs ≡ length es → map (λ e. told e.reply) (map entry_of (zip es rs)) ≡ map told rs
+replies [] [] h = refl
+replies [] (r ∷ rs) h = absurd (omega arith)
+replies (e ∷ es) [] h = absurd (omega arith)
+replies (e ∷ es) (r ∷ rs) h = ap (λ (xs : List Told). told r ∷ xs) (replies es rs (omega arith))

@@ -1,85 +1,74 @@
--- Lemmas on texts of digits.
-use Rattle.std.proofs.Common.{◌≡◌, ℕ, ◌+◌, ◌^◌, ◌<◌, ◌≤◌, min, Bool, true, false, cond, not, ◌&&◌, eqb, ltb, leb, List, [], ◌∷◌, length, get_or, drop, pos, Some, Ok, Err, Result, sym, refl, ap, ◌∙◌, subst, arith, ltb-true, ne_eqb, leb-false, leb-true}
+-- Lemmas on texts of digits, and on the numbers that they write.
+use Rattle.std.proofs.Common.{◌≡◌, ℕ, ◌^◌, ◌<◌, ◌≤◌, min, true, cond, List, [], ◌∷◌, ◌++◌, length, take, drop, codes, from_bits, Some, Ok, Err, Result, sym, refl, ap, ◌∙◌, subst, inl, inr, arith, ltb-true, ne_eqb}
 use native.Mathlib.Nat.{pow-le-pow_right, min-eq_left, min-eq_right}
-use lib.Ieee.{Float, binary32, of_int}
-use borrow.Author.Tests.{clash}
+use lib.Ieee.{Float, binary32}
+use Rattle.std.proofs.lemmas.Bool.{and_from, and_parts, cases_lt, cond-false, cond-true, eq-eqb, false_from_ne_true, le-leb}
 use Rattle.std.proofs.lemmas.Int.Digits.{digits_value-lt}
-use Rattle.std.proofs.lemmas.List.{at_drop_more, at_drop_all}
-use Rattle.std.proofs.lemmas.Bool.Decides.{nat_tests}
-use Rattle.std.specs.Float.Parse.{ParsesFloat}
+use Rattle.std.proofs.lemmas.List.{take-append-drop}
+use Rattle.std.proofs.lemmas.Slice.Eq.{bytes_eq-Decides}
+use Rattle.std.specs.Float.Parse.{IsParseFloatResult, parse_float}
+use Rattle.std.specs.Option.{option_map}
 use Rattle.std.specs.Result.{OkIff, result_ok, result_unwrap_or}
 use Rattle.std.specs.Str.Parse.{AllDigits, IsNumeral, ParsesUnsigned, without_leading_plus, digits_value}
 use Rattle.std.specs.Char.{digit_value}
-use Rattle.script.specs.Numbers.{digits_only, numeral, largest}
-
--- a loop that has come to place i
-module _ (radix : ℕ) (cs : List ℕ) (i : ℕ) (inv : digits_only radix (drop i cs) ≡ digits_only radix cs) where
-  step : i < length cs → digits_only radix (drop i cs) ≡ (ltb (digit_value (get_or cs i 0)) radix && digits_only radix (drop (i + 1) cs))
-  step h = at_drop_more (digits_only radix) cs i 0 h
-
-  pub digit_more : i < length cs → ltb (digit_value (get_or cs i 0)) radix ≡ true → digits_only radix (drop (i + 1) cs) ≡ digits_only radix cs
-  digit_more h e = ap (λ (b : Bool). b && digits_only radix (drop (i + 1) cs)) (sym e) ∙ sym (step h) ∙ inv
-
-  pub digit_fails : i < length cs → ltb (digit_value (get_or cs i 0)) radix ≡ false → false ≡ numeral radix cs
-  digit_fails h e = ap (λ (b : Bool). (b && digits_only radix (drop (i + 1) cs)) && ltb 0 (length cs)) (sym e) ∙ ap (λ (b : Bool). b && ltb 0 (length cs)) (sym (step h) ∙ inv)
-
-  pub digits_all : length cs ≤ i → not (eqb (length cs) 0) ≡ numeral radix cs
-  digits_all h =
-      let some : not (eqb (length cs) 0) ≡ ltb 0 (length cs) = grind (arith, nat_tests) in
-      some ∙ ap (λ (b : Bool). b && ltb 0 (length cs)) (sym (at_drop_all (digits_only radix) cs i h) ∙ inv)
-
-pub and_left : (x y : Bool) → (x && y) ≡ true → x ≡ true
-and_left true y e = refl
-and_left false y e = e
-
-pub and_right : (x y : Bool) → (x && y) ≡ true → y ≡ true
-and_right true y e = e
-and_right false y e = absurd (clash e)
+use Rattle.script.specs.Numbers.{digits_only, numeral, largest, hex_word, decimal_number, bit_pattern, amount_of}
 
 digits_from : (radix : ℕ) (cs : List ℕ) → digits_only radix cs ≡ true → AllDigits radix cs
 digits_from radix [] e = tt
-digits_from radix (c ∷ cs) e = (ltb-true _ _ (and_left _ _ e), digits_from radix cs (and_right _ _ e))
+digits_from radix (c ∷ cs) e = let both = and_parts _ _ e in (ltb-true _ _ both.0, digits_from radix cs both.1)
 
-pub numeral_from : (radix : ℕ) (cs : List ℕ) → numeral radix cs ≡ true → IsNumeral radix cs
-numeral_from radix cs e = (ltb-true 0 (length cs) (and_right (digits_only radix cs) _ e), digits_from radix cs (and_left _ _ e))
+numeral_from : (radix : ℕ) (cs : List ℕ) → numeral radix cs ≡ true → IsNumeral radix cs
+numeral_from radix cs e = let both = and_parts (digits_only radix cs) _ e in (ltb-true 0 (length cs) both.1, digits_from radix cs both.0)
 
 -- a text of digits begins with no plus
-pub plain : (radix : ℕ) (cs : List ℕ) → radix ≤ 36 → numeral radix cs ≡ true → without_leading_plus cs ≡ cs
+plain : (radix : ℕ) (cs : List ℕ) → radix ≤ 36 → numeral radix cs ≡ true → without_leading_plus cs ≡ cs
 plain radix [] h e = refl
 plain radix (c ∷ cs) h e =
-    let low : digit_value c < radix = (digits_from radix (c ∷ cs) (and_left _ _ e)).0 in
-    ap (λ (b : Bool). drop (cond b 1 0) (c ∷ cs)) (ne_eqb c 43 (λ same. let l : 36 < radix = subst (λ (x : ℕ). digit_value x < radix) same low in omega arith))
+    let low : digit_value c < radix = (numeral_from radix (c ∷ cs) e).1.0 in
+    ap (λ (b : _). drop (cond b 1 0) (c ∷ cs)) (ne_eqb c 43 (λ same. let l : 36 < radix = subst (λ (x : ℕ). digit_value x < radix) same low in omega arith))
 
 converted : {E : Type 0} {P : Type 0} {v : ℕ} (r : Result ℕ E) → OkIff r P v → P → result_ok r ≡ Some v
 converted (Ok x) h p = ap Some h.1
 converted (Err e) h p = absurd (h p)
 
 module _ {E : Type 0} (r : Result ℕ E) (cs : List ℕ) where
-  -- what is read of a text of digits that fits
-  pub read_digits : (k radix : ℕ) → radix ≤ 36 → ParsesUnsigned k radix cs r → numeral radix cs ≡ true → digits_value radix cs < 2 ^ k → result_ok r ≡ Some (digits_value radix cs)
-  read_digits k radix h reads e fits =
-      converted r (subst (λ (ds : List ℕ). OkIff r (IsNumeral radix ds × (digits_value radix ds < 2 ^ k)) (digits_value radix ds)) (plain radix cs h e) reads) (numeral_from radix cs e, fits)
+  -- what is read of a text of digits, which begins with no plus
+  read_plain : (k radix : ℕ) → radix ≤ 36 → numeral radix cs ≡ true → ParsesUnsigned k radix cs r → OkIff r (IsNumeral radix cs × (digits_value radix cs < 2 ^ k)) (digits_value radix cs)
+  read_plain k radix h e reads = subst (λ (ds : List ℕ). OkIff r (IsNumeral radix ds × (digits_value radix ds < 2 ^ k)) (digits_value radix ds)) (plain radix cs h e) reads
 
   hex_fits : (n : ℕ) → numeral 16 cs ≡ true → length cs ≤ n → digits_value 16 cs < 16 ^ n
   hex_fits n e h =
-      let less = digits_value-lt 16 cs (digits_from 16 cs (and_left _ _ e)) in
+      let less = digits_value-lt 16 cs (numeral_from 16 cs e).1 in
       let more : 16 ^ length cs ≤ 16 ^ n = pow-le-pow_right (omega arith) h in
       omega arith
 
-  pub hex_word_lem : ParsesUnsigned 16 16 cs r → numeral 16 cs ≡ true → length cs ≤ 4 → result_ok r ≡ Some (digits_value 16 cs)
-  hex_word_lem reads e h = read_digits 16 16 (omega arith) reads e (hex_fits 4 e h)
+  pub hex_word_read : ParsesUnsigned 16 16 cs r → numeral 16 cs ≡ true → length cs ≤ 4 → result_ok r ≡ hex_word cs
+  hex_word_read reads e h =
+      converted r (read_plain 16 16 (omega arith) e reads) (numeral_from 16 cs e, hex_fits 4 e h) ∙ sym (cond-true _ _ _ (and_from _ _ (le-leb (length cs) 4 h) e))
 
-  pub bit_pattern_lem : ParsesUnsigned 32 16 cs r → numeral 16 cs ≡ true → length cs ≡ 8 → result_ok r ≡ Some (digits_value 16 cs)
-  bit_pattern_lem reads e h = read_digits 32 16 (omega arith) reads e (hex_fits 8 e (omega arith))
+  pub bit_pattern_read : ParsesUnsigned 32 16 cs r → numeral 16 cs ≡ true → length cs ≡ 8 → result_ok r ≡ bit_pattern cs
+  bit_pattern_read reads e h =
+      converted r (read_plain 32 16 (omega arith) e reads) (numeral_from 16 cs e, hex_fits 8 e (omega arith)) ∙ sym (cond-true _ _ _ (and_from _ _ (eq-eqb (length cs) 8 h) e))
 
-pub saturated : {E : Type 0} (r : Result ℕ E) (cs : List ℕ) → ParsesUnsigned 64 10 cs r → numeral 10 cs ≡ true → result_unwrap_or r largest ≡ min (digits_value 10 cs) largest
-saturated (Ok x) cs reads e =
-    let told : (IsNumeral 10 cs × (digits_value 10 cs < 2 ^ 64)) × (x ≡ digits_value 10 cs) = subst (λ (ds : List ℕ). (IsNumeral 10 ds × (digits_value 10 ds < 2 ^ 64)) × (x ≡ digits_value 10 ds)) (plain 10 cs (omega arith) e) reads in
-    told.1 ∙ sym (min-eq_left (omega (arith, told.0.1)))
-saturated (Err f) cs reads e =
-    let told : IsNumeral 10 cs × (digits_value 10 cs < 2 ^ 64) → ⊥ = subst (λ (ds : List ℕ). IsNumeral 10 ds × (digits_value 10 ds < 2 ^ 64) → ⊥) (plain 10 cs (omega arith) e) reads in
-    sym (min-eq_right (elim (leb largest (digits_value 10 cs)) as (λ b. leb largest (digits_value 10 cs) ≡ b → largest ≤ digits_value 10 cs) [ true ↦ (λ h. leb-true _ _ h) | false ↦ (λ h. absurd (told (numeral_from 10 cs e, omega (arith, leb-false largest (digits_value 10 cs) h)))) ] refl))
+saturated : {E : Type 0} (r : Result ℕ E) (cs : List ℕ) → OkIff r (IsNumeral 10 cs × (digits_value 10 cs < 2 ^ 64)) (digits_value 10 cs) → IsNumeral 10 cs → result_unwrap_or r largest ≡ min (digits_value 10 cs) largest
+saturated (Ok x) cs h e = h.1 ∙ sym (min-eq_left (omega (arith, h.0.1)))
+saturated (Err f) cs h e =
+    sym (min-eq_right (elim (cases_lt (digits_value 10 cs) (2 ^ 64)) [ inl low ↦ absurd (h (e, low)) | inr high ↦ omega arith ]))
 
-pub read_whole : {E : Type 0} (r : Result Float E) (cs : List ℕ) → ParsesFloat binary32 32 cs r → numeral 10 cs ≡ true → digits_value 10 cs < 2 ^ 32 → result_ok r ≡ Some (of_int binary32 (pos (digits_value 10 cs)))
-read_whole r cs reads e low =
-    ap result_ok (subst (λ (ds : List ℕ). IsNumeral 10 ds → digits_value 10 ds < 2 ^ 32 → r ≡ Ok (of_int binary32 (pos (digits_value 10 ds)))) (plain 10 cs (omega arith) e) reads.1 (numeral_from 10 cs e) low)
+pub decimal_read : {E : Type 0} (r : Result ℕ E) (cs : List ℕ) → ParsesUnsigned 64 10 cs r → numeral 10 cs ≡ true → Some (result_unwrap_or r largest) ≡ decimal_number cs
+decimal_read r cs reads e =
+    ap Some (saturated r cs (read_plain r cs 64 10 (omega arith) e reads) (numeral_from 10 cs e)) ∙ sym (cond-true _ _ _ e)
+
+-- after `0x` a text is read as bits, any other as a decimal number
+pub amount_bits : (cs ds : List ℕ) → cs ≡ 48 ∷ 120 ∷ ds → amount_of cs ≡ option_map (from_bits binary32) (bit_pattern ds)
+unfolding amount_of
+amount_bits cs ds e = ap amount_of e
+
+pub amount_decimal : (cs : List ℕ) → ((ds : List ℕ) → cs ≡ 48 ∷ 120 ∷ ds → ⊥) → amount_of cs ≡ parse_float binary32 cs
+unfolding amount_of
+amount_decimal cs h =
+    cond-false _ _ _ (false_from_ne_true _ (λ e. h (drop 2 cs) (sym (take-append-drop 2 cs) ∙ ap (λ (l : List ℕ). l ++ drop 2 cs) ((bytes_eq-Decides (take 2 cs) (codes "0x")).0 e))))
+
+pub read_decimal : {E : Type 0} (r : Result Float E) (cs : List ℕ) → IsParseFloatResult binary32 cs r → result_ok r ≡ parse_float binary32 cs
+read_decimal (Ok x) cs h = sym h
+read_decimal (Err e) cs h = sym h

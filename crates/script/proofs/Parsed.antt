@@ -1,46 +1,60 @@
--- Lemmas on lines and on what a text says.
-use Rattle.std.proofs.Common.{◌≡◌, ℕ, ◌+◌, ◌<◌, ◌≤◌, Bool, true, false, cond, eqb, List, [], ◌∷◌, ◌++◌, length, Ok, Err, Result, sym, refl, ap, ◌∙◌, subst, inl, inr, arith, MatchResult, IfErr}
+-- Lemmas on what a text says line by line.
+use Rattle.std.proofs.Common.{◌≡◌, ℕ, ◌+◌, ◌<◌, List, [], ◌∷◌, length, get_or, drop, Ok, Err, Result, sym, refl, ap, ◌∙◌, subst, arith, MatchResult}
 use Rattle.std.specs.Borrow.{Bor}
-use Rattle.std.proofs.lemmas.List.{length-append}
-use Rattle.std.proofs.lemmas.Bool.{eqb-true, ne_eqb, cases_Bool, cond-true, cond-false}
+use Rattle.std.specs.Result.{IsErrAnd}
+use Rattle.std.proofs.lemmas.List.{drop_more}
+use Rattle.std.proofs.lemmas.List.FromFn.{get_or-enumerate_from, length-enumerate_from}
+use Rattle.std.specs.List.{enumerate_from}
 use Rattle.script.specs.declared.fault.ScriptFault.{ScriptFault}
 use Rattle.script.specs.declared.fault.Wrong.{Wrong}
-use Rattle.script.specs.declared.reader.Reader.{Reader}
 use Rattle.script.specs.declared.reader.Script.{Script}
-use Rattle.script.specs.Faults.{bad_line, at_line}
-use Rattle.script.specs.Lines.{unreturned, as_lines, lines_of, LineRead, whole_at, LineBy, Parses}
-use Rattle.script.specs.Progress.{Progress, progress_of, whole_by, ended}
-use Rattle.script.specs.Words.{longer, cut, is_none}
-use Rattle.script.proofs.Cutting.{Lacks, cut_whole, cut_more}
+use Rattle.script.specs.Faults.{bad_line, at_line, out_of_memory}
+use Rattle.script.specs.Lines.{LineBy, LineRead, whole_at, Parses}
+use Rattle.script.specs.Progress.{Progress, whole_by, ended}
+use Rattle.script.specs.Words.{spelt, words_of}
 
-pub returned : (x : List ℕ) → unreturned (x ++ 13 ∷ []) ≡ x
-returned [] = refl
-returned (b ∷ []) = ap (λ (l : List ℕ). b ∷ l) (returned [])
-returned (b ∷ d ∷ bs) = ap (λ (l : List ℕ). b ∷ l) (returned (d ∷ bs))
+-- a call that was refused memory
+pub refused : {A Q : Type 0} (P : A → Type 0) (r : Result A Wrong) → IsErrAnd r (λ w. w ≡ out_of_memory) → Q → MatchResult r P (λ w. (w ≡ out_of_memory) × Q)
+refused P (Ok x) e q = absurd e
+refused P (Err w) e q = (e, q)
 
-pub not_returned : (x : List ℕ) → ((front : List ℕ) → x ≡ front ++ 13 ∷ [] → ⊥) → unreturned x ≡ x
-not_returned [] h = refl
-not_returned (b ∷ []) h = elim (cases_Bool (eqb b 13)) [
-  | inl t ↦ absurd (h [] (ap (λ (n : ℕ). n ∷ []) (eqb-true b 13 t)))
-  | inr f ↦ cond-false (eqb b 13) [] (b ∷ []) f
-]
-not_returned (b ∷ d ∷ bs) h = ap (λ (l : List ℕ). b ∷ l) (not_returned (d ∷ bs) (λ front e. h (b ∷ front) (ap (λ (l : List ℕ). b ∷ l) e)))
+pub refused_at : {A Q : Type 0} (P : A → Type 0) (n : ℕ) (x : Result A Wrong) (y : Result A ScriptFault) (f : ScriptFault) → MatchResult x P (λ w. (w ≡ out_of_memory) × Q) → y ≡ at_line n x → y ≡ Err f → (f ≡ bad_line n out_of_memory) × Q
+refused_at P n (Ok a) y f h e is = absurd (let z : ◌≡◌ {A = ℕ} 0 1 = cc in omega arith)
+refused_at P n (Err w) y f h e is = (cc, h.1)
 
--- the pieces zs with one more byte in the first
-longer_lines : (x : List ℕ) (b : ℕ) (zs : List (List ℕ)) → as_lines (x ∷ longer b zs) ≡ unreturned x ∷ as_lines (longer b zs)
-longer_lines x b [] = refl
-longer_lines x b (z ∷ zs) = refl
+abbrev spell : List (List ℕ) → List (Bor (List ℕ))
+spell [] = []
+spell (w ∷ ws) = record { ref_ptr = (0, 0); now = w } ∷ spell ws
 
-pub lines_more : (c : ℕ) (x bs : List ℕ) → as_lines (x ∷ cut c bs) ≡ unreturned x ∷ as_lines (cut c bs)
-lines_more c x [] = refl
-lines_more c x (b ∷ bs) = elim (cases_Bool (eqb b c)) [
-  | inl t ↦
-      let e = cond-true (eqb b c) ([] ∷ cut c bs) (longer b (cut c bs)) t in
-      ap (λ (l : List (List ℕ)). as_lines (x ∷ l)) e ∙ ap (λ (l : List (List ℕ)). unreturned x ∷ as_lines l) (sym e)
-  | inr f ↦
-      let e = cond-false (eqb b c) ([] ∷ cut c bs) (longer b (cut c bs)) f in
-      ap (λ (l : List (List ℕ)). as_lines (x ∷ l)) e ∙ longer_lines x b (cut c bs) ∙ ap (λ (l : List (List ℕ)). unreturned x ∷ as_lines l) (sym e)
-]
+spelt-spell : (ws : List (List ℕ)) → spelt (spell ws) ≡ ws
+spelt-spell [] = refl
+spelt-spell (w ∷ ws) = ap (λ (l : List (List ℕ)). w ∷ l) (spelt-spell ws)
+
+module _ (p : Progress) (n : ℕ) (r : Result Progress ScriptFault) (e : r ≡ Err (bad_line n out_of_memory)) where
+  no_memory_by : (ws : List (List ℕ)) → 0 < length ws → LineBy p n (spell ws) r
+  no_memory_by [] some = absurd (omega arith)
+  no_memory_by (w ∷ ws) some = (Err out_of_memory, (λ other. absurd (other refl)), e)
+
+  -- a line with words for which there is no memory
+  pub no_memory : (line : List ℕ) → 0 < length (words_of line) → LineRead p n line r
+  no_memory line some = (spell (words_of line), spelt-spell (words_of line), no_memory_by (words_of line) some)
+
+-- where the k-th line is among the numbered lines
+numbered : (ls : List (List ℕ)) (k i : ℕ) (l : List ℕ) → (k < length (enumerate_from 0 ls)) × ((i, l) ≡ get_or (enumerate_from 0 ls) k (i, l)) → (k < length ls) × (i ≡ k) × (l ≡ get_or ls k l)
+numbered ls k i l turn =
+    let below : k < length ls = omega (arith, turn.0, length-enumerate_from 0 ls) in
+    let same = turn.1 ∙ get_or-enumerate_from 0 ls k (i, l) below in
+    (below, ap (λ (x : ℕ × List ℕ). x.0) same ∙ omega arith, ap (λ (x : ℕ × List ℕ). x.1) same)
+
+-- one line more after the first k
+pub line_parsed :
+    (ls : List (List ℕ)) (k i : ℕ) (l : List ℕ) → (k < length (enumerate_from 0 ls)) × ((i, l) ≡ get_or (enumerate_from 0 ls) k (i, l)) → (p : Progress) (x : Result Progress ScriptFault) → LineRead p (i + 1) l x
+    → (r : Result Script ScriptFault) → MatchResult x (λ q. Parses (k + 1 + 1) q (drop (k + 1) ls) r) (λ f. r ≡ Err f) → Parses (k + 1) p (drop k ls) r
+line_parsed ls k i l turn p x read r more =
+    let here = numbered ls k i l turn in
+    let left : l ∷ drop (k + 1) ls ≡ drop k ls = ap (λ (m : List ℕ). m ∷ drop (k + 1) ls) here.2 ∙ sym (drop_more ls k l here.0) in
+    let read_here : LineRead p (k + 1) l x = subst (λ (n : ℕ). LineRead p (n + 1) l x) here.1 read in
+    subst (λ (ms : List (List ℕ)). Parses (k + 1) p ms r) left (x, read_here, more)
 
 whole_of : (n : ℕ) (x : Result Script Wrong) → whole_at (at_line n x) ≡ at_line n (whole_by x)
 whole_of n (Ok x) = refl
@@ -48,47 +62,3 @@ whole_of n (Err w) = refl
 
 pub ends : (n : ℕ) (p : Progress) (x : Result Script Wrong) (r : Result Script ScriptFault) → r ≡ at_line n x → whole_by x ≡ ended p → Parses n p [] r
 ends n p x r e f = ap whole_at e ∙ whole_of n x ∙ ap (at_line n) f
-
--- the text `rest` is the line a, a newline and `after`
-module _ (rest a after : List ℕ) (h : (rest ≡ a ++ 10 ∷ after) × Lacks 10 a) (n : ℕ) (p : Progress) (l : List ℕ) (same : l ≡ unreturned a) where
-  pub line_parsed : (x : Result Reader ScriptFault) → LineRead p n l x → (r : Result Script ScriptFault) → MatchResult x (λ q. Parses (n + 1) (progress_of q) (lines_of after) r) (λ f. r ≡ Err f) → Parses n p (lines_of rest) r
-  line_parsed x read r k =
-      let lines : unreturned a ∷ lines_of after ≡ lines_of rest = sym (lines_more 10 a after) ∙ ap as_lines (cut_more 10 rest a after h) in
-      subst (λ (ls : List (List ℕ)). Parses n p ls r) lines (x, subst (λ (m : List ℕ). LineRead p n m x) same read, k)
-
--- the text `rest` has no newline
-module _ (rest : List ℕ) (h : Lacks 10 rest) (n : ℕ) (p : Progress) (r : Result Script ScriptFault) where
-  last_lines : (b : Bool) → b ≡ is_none rest → lines_of rest ≡ cond b [] (rest ∷ [])
-  last_lines b e = ap as_lines (cut_whole 10 rest h) ∙ ap (λ (x : Bool). cond x [] (rest ∷ [])) (sym e)
-
-  pub last_parsed : false ≡ is_none rest → (x : Result Reader ScriptFault) → LineRead p n rest x → MatchResult x (λ q. Parses (n + 1) (progress_of q) [] r) (λ f. r ≡ Err f) → Parses n p (lines_of rest) r
-  last_parsed some x read k = subst (λ (ls : List (List ℕ)). Parses n p ls r) (sym (last_lines false some)) (x, read, k)
-
-  pub none_parsed : true ≡ is_none rest → Parses n p [] r → Parses n p (lines_of rest) r
-  none_parsed none k = subst (λ (ls : List (List ℕ)). Parses n p ls r) (sym (last_lines true none)) k
-
-pub no_bytes : (bs : List ℕ) → is_none bs ≡ eqb (length bs) 0
-no_bytes [] = refl
-no_bytes (b ∷ bs) = sym (ne_eqb (length (b ∷ bs)) 0 (λ e. omega arith))
-
-pub shorter : (rest a after : List ℕ) → rest ≡ a ++ 10 ∷ after → length after + 1 ≤ length rest
-shorter rest a after e = omega (arith, ap length e, length-append a (10 ∷ after))
-
--- a fault of the line n names it
-fault_line : {T : Type 0} (n : ℕ) (x : Result T Wrong) (f : ScriptFault) (r : Result T ScriptFault) → r ≡ Err f → r ≡ at_line n x → f.line ≡ n
-fault_line n (Ok y) f r is e = cc
-fault_line n (Err w) f r is e = let same : f ≡ bad_line n w = cc in ap (λ (g : ScriptFault). g.line) same
-
-named_by : (p : Progress) (n : ℕ) (ws : List (Bor (List ℕ))) (f : ScriptFault) → LineBy p n ws (Err f) → f.line ≡ n
-named_by p n [] f h = absurd h
-named_by p n (w ∷ ws) f h = fault_line n h.0 f (Err f) refl h.2
-
-by_line : (n : ℕ) (p : Progress) (l : List ℕ) (ls : List (List ℕ)) (r : Result Script ScriptFault) → ((q : Progress) → Parses (n + 1) q ls r → IfErr r (λ f. 0 < f.line)) → 1 ≤ n → (x : Result Reader ScriptFault) → LineRead p n l x → MatchResult x (λ q. Parses (n + 1) (progress_of q) ls r) (λ f. r ≡ Err f) → IfErr r (λ f. 0 < f.line)
-by_line n p l ls r ih low (Ok q) read k = ih (progress_of q) k
-by_line n p l ls r ih low (Err f) read e = subst (λ (s : Result Script ScriptFault). IfErr s (λ g. 0 < g.line)) (sym e) (omega (arith, named_by p n read.0 f read.2))
-
--- lines are counted from 1
-pub parses_numbered : (n : ℕ) (p : Progress) (ls : List (List ℕ)) (r : Result Script ScriptFault) → 1 ≤ n → Parses n p ls r → IfErr r (λ f. 0 < f.line)
-parses_numbered n p [] (Ok x) low h = tt
-parses_numbered n p [] (Err f) low h = omega (arith, fault_line n (ended p) f (Err f) refl h)
-parses_numbered n p (l ∷ ls) r low h = by_line n p l ls r (λ q k. parses_numbered (n + 1) q ls r (omega arith) k) low h.0 h.1 h.2

@@ -1,11 +1,12 @@
 -- What the words of a line say.
-use Rattle.std.specs.Prelude.{◌≡◌, ℕ, Bool, true, false, cond, List, [], length, Some, None, Ok, Err, codes, Option, Result, ◌≢◌, nat_lt, slice_index_or, Float}
+use Rattle.std.specs.Prelude.{ℕ, Bool, true, false, cond, List, [], length, Some, None, Ok, Err, codes, Option, Result, nat_lt, slice_index_or, Float}
 use Rattle.std.specs.Borrow.{Bor}
+use Rattle.std.specs.Option.{ok_or}
 use Rattle.std.specs.Str.{bytes_eq}
 use Rattle.values.specs.declared.model.Model.{Model}
 use Rattle.values.specs.Model.{with_volts}
 use Rattle.stage.specs.Levels.{taken}
-use Rattle.table.specs.declared.records.Amounts.{Amounts}
+use Rattle.table.specs.Both.{Amounts}
 use Rattle.table.specs.declared.records.Conditions.{Conditions}
 use Rattle.table.specs.declared.round.Reading.{Reading}
 use Rattle.module.specs.declared.block.Access.{Access}
@@ -13,7 +14,7 @@ use Rattle.module.specs.declared.block.Kind.TheVariants.{Read, Write}
 use Rattle.script.specs.declared.command.Setup.{Setup}
 use Rattle.script.specs.declared.fault.Wrong.{Wrong}
 use Rattle.script.specs.declared.fault.Wrong.TheVariants.{BadCount, BadInhibit, BadLoop, BadModel, BadNumber, BadOffset, BadStage, BadSupply, BadWord, MissingWord, NotAccess, SurplusWord, UnknownCommand}
-use Rattle.script.specs.Numbers.{decimal_number, hex_word, ReadsAmount}
+use Rattle.script.specs.Numbers.{decimal_number, hex_word, amount_of}
 use Rattle.script.specs.declared.command.Command.{Command}
 use Rattle.script.specs.declared.command.Command.TheVariants as command
 use Rattle.script.specs.declared.command.Keyword.{Keyword}
@@ -44,6 +45,12 @@ stage_name Distributor = codes "distributor"
 abbrev pub stage_named : List ℕ → Option StageKind
 stage_named w = cond (bytes_eq w (codes "direct")) (Some Direct) (cond (bytes_eq w (codes "distributor")) (Some Distributor) None)
 
+abbrev pub keyword_read : List ℕ → Result Keyword Wrong
+keyword_read w = ok_or (keyword_named w) UnknownCommand
+
+abbrev pub stage_read : List ℕ → Result StageKind Wrong
+stage_read w = ok_or (stage_named w) BadStage
+
 -- whether it is the first of two words or the second
 abbrev pub choice_of : List ℕ → List ℕ → List ℕ → Option Bool
 choice_of first second w = cond (bytes_eq w first) (Some true) (cond (bytes_eq w second) (Some false) None)
@@ -53,11 +60,11 @@ abbrev pub model_of : Option ℕ → Option Model
 model_of None = None
 model_of (Some v) = with_volts v
 
-abbrev pub setup_by : Option Model → Option StageKind → Option ℕ → Result Setup Wrong
+abbrev pub setup_by : Option Model → Result StageKind Wrong → Option ℕ → Result Setup Wrong
 setup_by None s n = Err BadModel
-setup_by (Some m) None n = Err BadStage
-setup_by (Some m) (Some s) None = Err BadCount
-setup_by (Some m) (Some s) (Some n) = Ok (record { model = m; stage = s; count = taken n })
+setup_by (Some m) (Err w) n = Err w
+setup_by (Some m) (Ok s) None = Err BadCount
+setup_by (Some m) (Ok s) (Some n) = Ok (record { model = m; stage = s; count = taken n })
 
 -- a read's word begins as 0
 abbrev pub read_by : Option ℕ → Result Access Wrong
@@ -79,17 +86,17 @@ read_line ws = fitting 2 ws (read_by (hex_word (word_at ws 1)))
 abbrev pub write_line : List (Bor (List ℕ)) → Result Access Wrong
 write_line ws = fitting 3 ws (write_by (hex_word (word_at ws 1)) (hex_word (word_at ws 2)))
 
-abbrev pub access_by : Option Keyword → List (Bor (List ℕ)) → Result Access Wrong
-access_by None ws = Err NotAccess
-access_by (Some keyword.Module) ws = Err NotAccess
-access_by (Some keyword.Read) ws = read_line ws
-access_by (Some keyword.Write) ws = write_line ws
-access_by (Some keyword.Block) ws = Err NotAccess
-access_by (Some keyword.Round) ws = Err NotAccess
+abbrev pub access_by : Result Keyword Wrong → List (Bor (List ℕ)) → Result Access Wrong
+access_by (Err w) ws = Err NotAccess
+access_by (Ok keyword.Module) ws = Err NotAccess
+access_by (Ok keyword.Read) ws = read_line ws
+access_by (Ok keyword.Write) ws = write_line ws
+access_by (Ok keyword.Block) ws = Err NotAccess
+access_by (Ok keyword.Round) ws = Err NotAccess
 
 -- a line of a block
 abbrev pub access_line : List (Bor (List ℕ)) → Result Access Wrong
-access_line ws = access_by (keyword_named (word_at ws 0)) ws
+access_line ws = access_by (keyword_read (word_at ws 0)) ws
 
 abbrev pub reading_by : Option Float → Option Float → Option Bool → Result Reading Wrong
 reading_by None i l = Err BadNumber
@@ -98,9 +105,8 @@ reading_by (Some v) (Some i) None = Err BadInhibit
 reading_by (Some v) (Some i) (Some l) = Ok (record { voltage = v; current = i; inhibit_low = l })
 
 -- a line of a round
-pub record ReadsReading (ws : List (Bor (List ℕ))) (r : Result Reading Wrong) : Type 0 where
-  pub misfit : (length ws ≢ 3) → r ≡ fitting 3 ws r
-  pub fit : length ws ≡ 3 → (v : Option Float) × (i : Option Float) × ReadsAmount (word_at ws 0) v × ReadsAmount (word_at ws 1) i × (r ≡ reading_by v i (choice_of (codes "low") (codes "high") (word_at ws 2)))
+abbrev pub reading_line : List (Bor (List ℕ)) → Result Reading Wrong
+reading_line ws = fitting 3 ws (reading_by (amount_of (word_at ws 0)) (amount_of (word_at ws 1)) (choice_of (codes "low") (codes "high") (word_at ws 2)))
 
 abbrev pub maxima_by : Option Float → Option Float → Result Amounts Wrong
 maxima_by None i = Err BadNumber
@@ -119,19 +125,20 @@ round_by (Err w) n = Err w
 round_by (Ok c) None = Err BadCount
 round_by (Ok c) (Some n) = Ok (command.Round c n)
 
-pub record ReadsRound (ws : List (Bor (List ℕ))) (r : Result Command Wrong) : Type 0 where
-  pub misfit : (length ws ≢ 7) → r ≡ fitting 7 ws r
-  pub fit :
-      length ws ≡ 7
-      → (t : Option Float) × (v : Option Float) × (i : Option Float) × ReadsAmount (word_at ws 1) t × ReadsAmount (word_at ws 4) v × ReadsAmount (word_at ws 5) i
-      × (r ≡ round_by (conditions_by t (choice_of (codes "good") (codes "bad") (word_at ws 2)) (choice_of (codes "closed") (codes "open") (word_at ws 3)) (maxima_by v i)) (decimal_number (word_at ws 6)))
+abbrev pub round_line : List (Bor (List ℕ)) → Result Command Wrong
+round_line ws =
+    fitting 7 ws
+    (round_by
+    (conditions_by (amount_of (word_at ws 1)) (choice_of (codes "good") (codes "bad") (word_at ws 2)) (choice_of (codes "closed") (codes "open") (word_at ws 3))
+    (maxima_by (amount_of (word_at ws 4)) (amount_of (word_at ws 5))))
+    (decimal_number (word_at ws 6)))
 
 abbrev pub module_by : Result Setup Wrong → Result Command Wrong
 module_by (Err w) = Err w
 module_by (Ok s) = Ok (command.Module s)
 
 abbrev pub module_line : List (Bor (List ℕ)) → Result Command Wrong
-module_line ws = module_by (fitting 4 ws (setup_by (model_of (decimal_number (word_at ws 1))) (stage_named (word_at ws 2)) (decimal_number (word_at ws 3))))
+module_line ws = module_by (fitting 4 ws (setup_by (model_of (decimal_number (word_at ws 1))) (stage_read (word_at ws 2)) (decimal_number (word_at ws 3))))
 
 abbrev pub access_command : Result Access Wrong → Result Command Wrong
 access_command (Err w) = Err w
@@ -144,14 +151,13 @@ block_by (Some n) = Ok (command.Block n)
 abbrev pub block_line : List (Bor (List ℕ)) → Result Command Wrong
 block_line ws = fitting 2 ws (block_by (decimal_number (word_at ws 1)))
 
--- the amounts of a round are read as `ReadsAmount` says
-abbrev pub ReadsBy : Option Keyword → List (Bor (List ℕ)) → Result Command Wrong → Type 0
-ReadsBy None ws r = r ≡ Err UnknownCommand
-ReadsBy (Some keyword.Module) ws r = r ≡ module_line ws
-ReadsBy (Some keyword.Read) ws r = r ≡ access_command (read_line ws)
-ReadsBy (Some keyword.Write) ws r = r ≡ access_command (write_line ws)
-ReadsBy (Some keyword.Block) ws r = r ≡ block_line ws
-ReadsBy (Some keyword.Round) ws r = ReadsRound ws r
+abbrev pub command_by : Result Keyword Wrong → List (Bor (List ℕ)) → Result Command Wrong
+command_by (Err w) ws = Err w
+command_by (Ok keyword.Module) ws = module_line ws
+command_by (Ok keyword.Read) ws = access_command (read_line ws)
+command_by (Ok keyword.Write) ws = access_command (write_line ws)
+command_by (Ok keyword.Block) ws = block_line ws
+command_by (Ok keyword.Round) ws = round_line ws
 
-abbrev pub ReadsCommand : List (Bor (List ℕ)) → Result Command Wrong → Type 0
-ReadsCommand ws r = ReadsBy (keyword_named (word_at ws 0)) ws r
+abbrev pub command_line : List (Bor (List ℕ)) → Result Command Wrong
+command_line ws = command_by (keyword_read (word_at ws 0)) ws

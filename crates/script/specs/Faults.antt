@@ -1,5 +1,6 @@
 -- A bad line: its number, and what is wrong with it.
-use Rattle.std.specs.Prelude.{◌≡◌, ℕ, ◌+◌, cond, List, [], ◌∷◌, take, Ok, Err, Result, ◌==◌}
+use Rattle.std.specs.Prelude.{◌≡◌, ℕ, ◌+◌, List, take, Ok, Err, Result, ◌==◌}
+use Rattle.std.specs.List.{count_by}
 use Rattle.std.specs.Str.{IsValidUpTo}
 use Rattle.script.specs.declared.fault.ScriptFault.{ScriptFault}
 use Rattle.script.specs.declared.fault.Wrong.{Wrong}
@@ -20,8 +21,7 @@ not_text = NotText
 
 -- how many newlines are among some bytes
 abbrev pub newlines : List ℕ → ℕ
-newlines [] = 0
-newlines (b ∷ bs) = cond (b == 10) 1 0 + newlines bs
+newlines bs = count_by (λ b. b == 10) bs
 
 -- the line of the byte at n, counted from 1
 abbrev pub line_of : List ℕ → ℕ → ℕ

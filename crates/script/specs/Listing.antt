@@ -1,20 +1,25 @@
 -- What is listed of a run.
-use Rattle.std.specs.Prelude.{ℕ, ◌+◌, Bool, true, false, cond, List, [], ◌∷◌, is_ok, vec_len}
-use Rattle.std.specs.Str.{bytes_eq}
-use Rattle.module.specs.declared.levels.Levels.{Levels}
+use Rattle.std.specs.Prelude.{ℕ, Bool, true, false, List, is_ok, vec_len}
+use Rattle.std.specs.List.{count_by}
 use Rattle.runs.specs.declared.call.Call.{Call}
 use Rattle.runs.specs.declared.call.Call.TheVariants as call
-use Rattle.runs.specs.Calls.{Said, Told, word, written, ended, turned}
+use Rattle.runs.specs.declared.call.Reply.{Reply}
+use Rattle.runs.specs.Calls.{Said, word, written, ended, turned, said_by}
 use Rattle.script.specs.declared.command.StageKind.{StageKind}
 use Rattle.script.specs.declared.command.StageKind.TheVariants.{Direct, Distributor}
 use Rattle.script.specs.declared.listing.Echo.{Echo}
 use Rattle.script.specs.declared.listing.Echo.TheVariants as echo
+use Rattle.script.specs.declared.listing.Entry.{Entry}
 
 abbrev pub echo_of : Call → Echo
 echo_of (call.Read o) = echo.Read o
 echo_of (call.Write o w) = echo.Write o w
 echo_of (call.Block xs) = echo.Block
 echo_of (call.Round c rs) = echo.Round (vec_len rs)
+
+-- a call, with what it was answered
+abbrev pub entry_of : Echo × Reply → Entry
+entry_of p = record { echo = p.0; reply = p.1 }
 
 -- whether stages of the kind regulate current
 abbrev pub regulates : StageKind → Bool
@@ -27,9 +32,5 @@ done_by (written r) = is_ok r
 done_by (ended e xs) = is_ok e
 done_by (turned r) = is_ok r
 
-abbrev pub done_count : List Told → ℕ
-done_count [] = 0
-done_count (t ∷ ts) = cond (done_by t.said) 1 0 + done_count ts
-
-abbrev pub same_levels : Levels → Levels → Bool
-same_levels a b = bytes_eq a.steps b.steps
+abbrev pub done_count : List Entry → ℕ
+done_count es = count_by (λ e. done_by (said_by e.reply.answer)) es

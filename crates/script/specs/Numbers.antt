@@ -1,15 +1,15 @@
 -- The numbers that the words of a script write.
-use Rattle.std.specs.Prelude.{◌≡◌, ℕ, ◌-◌, ◌^◌, ◌<◌, min, Bool, true, cond, ◌&&◌, List, [], ◌∷◌, ◌++◌, length, pos, is_some, Some, None, codes, Option, ◌==◌, ◌≢◌, from_bits, nat_le, nat_lt, Float}
+use Rattle.std.specs.Prelude.{ℕ, ◌-◌, ◌^◌, min, Bool, cond, ◌&&◌, List, length, take, drop, Some, None, codes, Option, ◌==◌, from_bits, nat_le, nat_lt, Float}
 use Rattle.std.specs.Float.{binary32}
-use Rattle.std.specs.Float.Ieee.{of_int}
-use Rattle.std.specs.Float.Parse.{is_float_text}
+use Rattle.std.specs.Float.Parse.{parse_float}
+use Rattle.std.specs.List.{list_all}
+use Rattle.std.specs.Str.{bytes_eq}
 use Rattle.std.specs.Option.{option_map}
 use Rattle.std.specs.Str.Parse.{digits_value}
 use Rattle.std.specs.Char.{digit_value}
 
 abbrev pub digits_only : ℕ → List ℕ → Bool
-digits_only radix [] = true
-digits_only radix (c ∷ cs) = nat_lt (digit_value c) radix && digits_only radix cs
+digits_only radix cs = list_all (λ c. nat_lt (digit_value c) radix) cs
 
 -- one digit or more, and nothing else
 abbrev pub numeral : ℕ → List ℕ → Bool
@@ -30,8 +30,6 @@ decimal_number cs = cond (numeral 10 cs) (Some (min (digits_value 10 cs) largest
 abbrev pub bit_pattern : List ℕ → Option ℕ
 bit_pattern cs = cond (length cs == 8 && numeral 16 cs) (Some (digits_value 16 cs)) None
 
--- after `0x` the bits of the number; any other text is a number just where it is a float's, and a whole number below 2^32 is the nearest binary32
-pub record ReadsAmount (cs : List ℕ) (r : Option Float) : Type 0 where
-  pub bits : (ds : List ℕ) → cs ≡ codes "0x" ++ ds → r ≡ option_map (from_bits binary32) (bit_pattern ds)
-  pub known : ((ds : List ℕ) → cs ≢ codes "0x" ++ ds) → is_some r ≡ is_float_text cs
-  pub whole : ((ds : List ℕ) → cs ≢ codes "0x" ++ ds) → numeral 10 cs ≡ true → digits_value 10 cs < 2 ^ 32 → r ≡ Some (of_int binary32 (pos (digits_value 10 cs)))
+-- the bits of a binary32 after `0x`, or the binary32 that decimal text is nearest to
+unfoldable pub amount_of : List ℕ → Option Float
+amount_of cs = cond (bytes_eq (take 2 cs) (codes "0x")) (option_map (from_bits binary32) (bit_pattern (drop 2 cs))) (parse_float binary32 cs)

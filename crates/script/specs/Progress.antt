@@ -7,7 +7,7 @@ use Rattle.module.specs.declared.block.Access.{Access}
 use Rattle.module.specs.declared.block.Kind.{Kind}
 use Rattle.module.specs.declared.block.Kind.TheVariants.{Read, Write}
 use Rattle.runs.specs.Calls.{Asked, asked, reads, writes, blocks, rounds}
-use Rattle.script.specs.Commands.{access_line, ReadsReading, ReadsCommand}
+use Rattle.script.specs.Commands.{access_line, reading_line, command_line}
 use Rattle.script.specs.declared.command.Command.{Command}
 use Rattle.script.specs.declared.command.Command.TheVariants as command
 use Rattle.script.specs.declared.command.Setup.{Setup}
@@ -15,7 +15,6 @@ use Rattle.script.specs.declared.fault.Wrong.{Wrong}
 use Rattle.script.specs.declared.fault.Wrong.TheVariants.{EndInBlock, EndInRound, NoMemory, NoModule, SecondModule}
 use Rattle.script.specs.declared.reader.Pending.{Pending}
 use Rattle.script.specs.declared.reader.Pending.TheVariants as pending
-use Rattle.script.specs.declared.reader.Reader.{Reader}
 use Rattle.script.specs.declared.reader.Script.{Script}
 
 -- a block or a round, with how many of its lines are to come
@@ -31,18 +30,15 @@ pub record Progress : Type 0 where
 
 abbrev pub opened_by : Pending → Opened
 opened_by pending.Nothing = nothing
-opened_by (pending.Block n xs) = block n (vec_items xs)
-opened_by (pending.Round n c rs) = round n c (vec_items rs)
+opened_by (pending.Block g) = block g.left (vec_items g.items)
+opened_by (pending.Round c g) = round g.left c (vec_items g.items)
 
 abbrev pub progress : Option Setup → List Asked → Opened → Progress
 progress s cs o = record { setup = s; calls = cs; opened = o }
 
-abbrev pub progress_of : Reader → Progress
-progress_of r = progress r.setup (map asked (vec_items r.calls)) (opened_by r.pending)
-
 -- what was read, unless there was no memory for it
-abbrev pub Reads : Result Reader Wrong → Result Progress Wrong → Type 0
-Reads (Ok x) p = p ≡ Ok (progress_of x)
+abbrev pub Reads : Result Progress Wrong → Result Progress Wrong → Type 0
+Reads (Ok q) p = p ≡ Ok q
 Reads (Err w) p = (w ≢ NoMemory) → p ≡ Err w
 
 abbrev pub asked_as : Kind → Access → Asked
@@ -52,47 +48,47 @@ asked_as Write a = writes a.offset a.word
 abbrev pub asked_by : Access → Asked
 asked_by a = asked_as a.kind a
 
-abbrev pub called : Option Setup → List Asked → Asked → Progress
-called s cs a = progress s (cs ++ a ∷ []) nothing
+abbrev pub called : Progress → Asked → Progress
+called p a = progress p.setup (p.calls ++ a ∷ []) nothing
 
-abbrev pub block_open : Option Setup → List Asked → ℕ → List Access → Progress
-block_open s cs n xs = cond (n == 0) (called s cs (blocks xs)) (progress s cs (block n xs))
-
-abbrev pub round_open : Option Setup → List Asked → ℕ → Conditions → List Reading → Progress
-round_open s cs n c rs = cond (n == 0) (called s cs (rounds c rs)) (progress s cs (round n c rs))
+-- a block or a round is a call once none of its lines is to come
+abbrev pub opening : Progress → Opened → Progress
+opening p nothing = progress p.setup p.calls nothing
+opening p (block n xs) = cond (n == 0) (called p (blocks xs)) (progress p.setup p.calls (block n xs))
+opening p (round n c rs) = cond (n == 0) (called p (rounds c rs)) (progress p.setup p.calls (round n c rs))
 
 -- a command between calls
-abbrev pub begun : Option Setup → List Asked → Command → Result Progress Wrong
-begun None cs (command.Module s) = Ok (progress (Some s) cs nothing)
-begun None cs (command.Access a) = Err NoModule
-begun None cs (command.Block n) = Err NoModule
-begun None cs (command.Round c n) = Err NoModule
-begun (Some s) cs (command.Module t) = Err SecondModule
-begun (Some s) cs (command.Access a) = Ok (called (Some s) cs (asked_by a))
-begun (Some s) cs (command.Block n) = Ok (block_open (Some s) cs n [])
-begun (Some s) cs (command.Round c n) = Ok (round_open (Some s) cs n c [])
+abbrev pub begun : Option Setup → Progress → Command → Result Progress Wrong
+begun None p (command.Module s) = Ok (progress (Some s) p.calls nothing)
+begun None p (command.Access a) = Err NoModule
+begun None p (command.Block n) = Err NoModule
+begun None p (command.Round c n) = Err NoModule
+begun (Some s) p (command.Module t) = Err SecondModule
+begun (Some s) p (command.Access a) = Ok (called p (asked_by a))
+begun (Some s) p (command.Block n) = Ok (opening p (block n []))
+begun (Some s) p (command.Round c n) = Ok (opening p (round n c []))
 
 -- a line that is left out of the calls by what is wrong with it
-abbrev pub begun_by : Option Setup → List Asked → Result Command Wrong → Result Progress Wrong
-begun_by s cs (Err w) = Err w
-begun_by s cs (Ok c) = begun s cs c
+abbrev pub begun_by : Progress → Result Command Wrong → Result Progress Wrong
+begun_by p (Err w) = Err w
+begun_by p (Ok c) = begun p.setup p c
 
-abbrev pub block_grown : Option Setup → List Asked → ℕ → List Access → Result Access Wrong → Result Progress Wrong
-block_grown s cs n xs (Err w) = Err w
-block_grown s cs n xs (Ok a) = Ok (block_open s cs (n - 1) (xs ++ a ∷ []))
+abbrev pub block_grown : Progress → ℕ → List Access → Result Access Wrong → Result Progress Wrong
+block_grown p n xs (Err w) = Err w
+block_grown p n xs (Ok a) = Ok (opening p (block (n - 1) (xs ++ a ∷ [])))
 
-abbrev pub round_grown : Option Setup → List Asked → ℕ → Conditions → List Reading → Result Reading Wrong → Result Progress Wrong
-round_grown s cs n c rs (Err w) = Err w
-round_grown s cs n c rs (Ok r) = Ok (round_open s cs (n - 1) c (rs ++ r ∷ []))
+abbrev pub round_grown : Progress → ℕ → Conditions → List Reading → Result Reading Wrong → Result Progress Wrong
+round_grown p n c rs (Err w) = Err w
+round_grown p n c rs (Ok r) = Ok (opening p (round (n - 1) c (rs ++ r ∷ [])))
 
--- a line of words after p; the amounts of a round are read as `ReadsAmount` says
-abbrev pub TakesBy : Opened → Option Setup → List Asked → List (Bor (List ℕ)) → Result Reader Wrong → Type 0
-TakesBy nothing s cs ws r = (x : Result Command Wrong) × ReadsCommand ws x × Reads r (begun_by s cs x)
-TakesBy (block n xs) s cs ws r = Reads r (block_grown s cs n xs (access_line ws))
-TakesBy (round n c rs) s cs ws r = (x : Result Reading Wrong) × ReadsReading ws x × Reads r (round_grown s cs n c rs x)
+-- a line of words after p
+abbrev pub taken_by : Opened → Progress → List (Bor (List ℕ)) → Result Progress Wrong
+taken_by nothing p ws = begun_by p (command_line ws)
+taken_by (block n xs) p ws = block_grown p n xs (access_line ws)
+taken_by (round n c rs) p ws = round_grown p n c rs (reading_line ws)
 
-abbrev pub Takes : Progress → List (Bor (List ℕ)) → Result Reader Wrong → Type 0
-Takes p ws r = TakesBy p.opened p.setup p.calls ws r
+abbrev pub taken : Progress → List (Bor (List ℕ)) → Result Progress Wrong
+taken p ws = taken_by p.opened p ws
 
 -- the script where it ends after p
 pub record Whole : Type 0 where

@@ -1,20 +1,20 @@
 // The run of a script, and what is listed of it.
 ghost use Rattle.std.specs.Prelude.{◌≡◌, ◌≤◌, map, length, IfOk};
+ghost use Rattle.std.specs.List.{zip};
 ghost use Rattle.stage.specs.Levels.{taken};
 ghost use Rattle.module.specs.State.{new_state};
 ghost use Rattle.runs.specs.Calls.{asked, told, said_by, run_told};
-ghost use Rattle.script.specs.Listing.{echo_of, regulates, done_by, done_count, same_levels};
+ghost use Rattle.script.specs.Listing.{echo_of, entry_of, regulates, done_by, done_count};
 
 use crate::command::{Setup, StageKind};
 use crate::reader::Script;
-use module::Levels;
 use runs::{Answer, Call, Outcome, Reply, run};
 use stage::{DirectStage, DistributorStage, Stage};
 use std::alloc::{AllocError, Global};
 use values::Model;
 
 // What is listed of a call besides its answer.
-#[derive(Clone, Copy)]
+#[derive(Clone, Copy, PartialEq, Eq, Debug)]
 pub enum Echo {
     Read { offset: u16 },
     Write { offset: u16, word: u16 },
@@ -22,37 +22,41 @@ pub enum Echo {
     Round { readings: usize },
 }
 
+// A call, with what it was answered.
+#[derive(Drop)]
+pub struct Entry {
+    pub echo: Echo,
+    pub reply: Reply,
+}
+
 #[derive(Drop)]
 pub struct Listing {
     pub setup: Setup,
-    pub echoes: Vec<Echo>,
-    pub replies: Vec<Reply>,
+    pub entries: Vec<Entry>,
 }
 
-fn echo_of(call: &Call) -> Echo
-    ensures { result ≡ echo_of call.now }
-{
-    match call {
-        Call::Read { offset } => Echo::Read { offset: *offset },
-        Call::Write { offset, word } => Echo::Write {
-            offset: *offset,
-            word: *word,
-        },
-        Call::Block { .. } => Echo::Block,
-        Call::Round { readings, .. } => Echo::Round {
-            readings: readings.len(),
-        },
+impl From<&Call> for Echo {
+    ghost from_gives = { λ call r. r ≡ echo_of call.now };
+
+    fn from(call: &Call) -> Echo {
+        match call {
+            Call::Read { offset } => Echo::Read { offset: *offset },
+            Call::Write { offset, word } => Echo::Write {
+                offset: *offset,
+                word: *word,
+            },
+            Call::Block { .. } => Echo::Block,
+            Call::Round { readings, .. } => Echo::Round {
+                readings: readings.len(),
+            },
+        }
     }
 }
 
 fn echoes_of(heap: Global, calls: &[Call]) -> Result<Vec<Echo>, AllocError>
     ensures { IfOk result (λ v. v.items ≡ map echo_of calls.now) }
 {
-    let mut echoes = Vec::with_capacity(heap, calls.len())?;
-    for call in calls {
-        echoes.push(echo_of(call))?;
-    }
-    Ok(echoes)
+    calls.iter().map(Echo::from).collect(heap)
 }
 
 fn replies_over<S: Stage + Drop>(
@@ -61,7 +65,7 @@ fn replies_over<S: Stage + Drop>(
     model: Model,
     calls: Vec<Call>,
 ) -> Result<Vec<Reply>, AllocError>
-    ensures { IfOk result (λ v. map told v.items ≡ run_told S.regulating (new_state model (length (S.levels stage))) (map asked calls.items)) }
+    ensures { IfOk result (λ v. map told v.items ≡ run_told S.REGULATES (new_state model (length (S.levels stage))) (map asked calls.items)) }
 {
     let Outcome { module: _, replies } = run(heap, stage, model, calls)?;
     Ok(replies)
@@ -78,51 +82,51 @@ fn replies_of(heap: Global, setup: Setup, calls: Vec<Call>) -> Result<Vec<Reply>
     }
 }
 
+fn entries_of(
+    heap: Global,
+    echoes: Vec<Echo>,
+    replies: Vec<Reply>,
+) -> Result<Vec<Entry>, AllocError>
+    ensures { IfOk result (λ v. v.items ≡ map entry_of (zip echoes.items replies.items)) }
+{
+    echoes
+        .into_iter()
+        .zip(replies)
+        .map(|(echo, reply)| Entry { echo, reply })
+        .collect(heap)
+}
+
 // Runs the calls of a script on its module.
 pub fn perform(heap: Global, script: Script) -> Result<Listing, AllocError>
     ensures setup { IfOk result (λ x. x.setup ≡ script.setup) }
-    ensures echoes { IfOk result (λ x. x.echoes.items ≡ map echo_of script.calls.items) }
-    ensures replies { IfOk result (λ x. map told x.replies.items ≡ run_told (regulates script.setup.stage) (new_state script.setup.model (taken script.setup.count)) (map asked script.calls.items)) }
+    ensures echoes { IfOk result (λ x. map (λ e. e.echo) x.entries.items ≡ map echo_of script.calls.items) }
+    ensures replies { IfOk result (λ x. map (λ e. told e.reply) x.entries.items ≡ run_told (regulates script.setup.stage) (new_state script.setup.model (taken script.setup.count)) (map asked script.calls.items)) }
 {
     let Script { setup, calls } = script;
     let echoes = echoes_of(heap, calls.as_slice())?;
     let replies = replies_of(heap, setup, calls)?;
-    Ok(Listing {
-        setup,
-        echoes,
-        replies,
-    })
+    let entries = entries_of(heap, echoes, replies)?;
+    Ok(Listing { setup, entries })
 }
 
 // Whether the call was done; a block is done if all of its accesses are.
-pub(crate) fn is_done(answer: &Answer) -> bool
+fn is_done(answer: &Answer) -> bool
     ensures { result ≡ done_by (said_by answer.now) }
 {
     match answer {
         Answer::Read(result) => result.is_ok(),
-        Answer::Write(result) => result.is_ok(),
+        Answer::Write(result) | Answer::Round(result) => result.is_ok(),
         Answer::Block { end, .. } => end.is_ok(),
-        Answer::Round(result) => result.is_ok(),
     }
 }
 
 // How many of the calls were done.
-pub(crate) fn done_count(replies: &[Reply]) -> usize
-    ensures count { result ≡ done_count (map told replies.now) }
-    ensures bound { result ≤ length replies.now }
+pub(crate) fn done_count(entries: &[Entry]) -> usize
+    ensures count { result ≡ done_count entries.now }
+    ensures bound { result ≤ length entries.now }
 {
-    let mut done = 0;
-    for reply in replies {
-        if is_done(&reply.answer) {
-            done += 1;
-        }
-    }
-    done
-}
-
-// Both are of one module, so the counts are the same.
-pub(crate) fn same_levels(a: &Levels, b: &Levels) -> bool
-    ensures { result ≡ same_levels a.now b.now }
-{
-    a.steps == b.steps
+    entries
+        .iter()
+        .filter(|entry| is_done(&entry.reply.answer))
+        .count()
 }

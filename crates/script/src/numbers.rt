@@ -1,6 +1,6 @@
 // The numbers of a script: hexadecimal words, decimal counts, and the amounts of a round.
 ghost use Rattle.std.specs.Prelude.{◌≡◌, ◌≤◌};
-ghost use Rattle.script.specs.Numbers.{numeral, hex_word, decimal_number, bit_pattern, ReadsAmount};
+ghost use Rattle.script.specs.Numbers.{numeral, hex_word, decimal_number, bit_pattern, amount_of};
 
 use std::num::f32_from_bits_with_nan;
 
@@ -9,16 +9,10 @@ fn is_numeral(text: &str, radix: u32) -> bool
     requires { (2 ≤ radix) × (radix ≤ 36) }
     ensures { result ≡ numeral radix text.now }
 {
-    let digits = text.as_bytes();
-    for digit in digits {
-        if !(*digit as char).is_digit(radix) {
-            return false;
-        }
-    }
-    !text.is_empty()
+    text.bytes().all(|byte| char::from(byte).is_digit(radix)) && !text.is_empty()
 }
 
-// One to four hexadecimal digits.
+// One to four hexadecimal digits. One function with `bit_pattern` would cast its number, and is no plainer.
 pub(crate) fn hex_word(text: &str) -> Option<u16>
     ensures { result ≡ hex_word text.now }
 {
@@ -53,13 +47,10 @@ fn bit_pattern(text: &str) -> Option<u32>
 
 // A decimal number, or the bit pattern of a binary32 after `0x`.
 pub(crate) fn amount(text: &str) -> Option<f32>
-    ensures { ReadsAmount text.now result }
+    ensures { result ≡ amount_of text.now }
 {
     match text.strip_prefix("0x") {
-        Some(digits) => match bit_pattern(digits) {
-            Some(bits) => Some(f32_from_bits_with_nan(bits)),
-            None => None,
-        },
+        Some(digits) => bit_pattern(digits).map(|bits| f32_from_bits_with_nan(bits)),
         None => text.parse::<f32>().ok(),
     }
 }

@@ -1,6 +1,6 @@
 // What the lines of a script, up to one of them, have said.
-ghost use Rattle.std.specs.Prelude.{◌≡◌, [], map, None, Ok};
-ghost use Rattle.script.specs.Progress.{progress_of, progress, nothing, Reads, called, asked_by, block_open, round_open, begun_by, block_grown, round_grown, Takes, ended, whole_by};
+ghost use Rattle.std.specs.Prelude.{◌≡◌, ◌-◌, [], ◌∷◌, ◌++◌, None, Ok, MatchResult};
+ghost use Rattle.script.specs.Faults.{out_of_memory};
 ghost use Rattle.runs.specs.Calls.{asked};
 
 use crate::command::{Command, Setup, block_access, command_of, round_reading};
@@ -8,6 +8,8 @@ use crate::fault::Wrong;
 use module::{Access, Kind};
 use runs::Call;
 use std::alloc::Global;
+use std::marker::Model;
+use std::mem;
 use table::{Conditions, Reading};
 
 #[derive(Drop)]
@@ -16,19 +18,39 @@ pub struct Script {
     pub calls: Vec<Call>,
 }
 
+// The lines of a block or a round, of which `left` are to come.
+#[derive(Drop)]
+struct Gathering<T> {
+    left: usize,
+    items: Vec<T>,
+}
+
+impl<T: Drop> Gathering<T> {
+    fn new(heap: Global, left: usize) -> Gathering<T>
+        ensures { (result.left ≡ left) × (result.items.items ≡ []) }
+    {
+        Gathering {
+            left,
+            items: Vec::new(heap),
+        }
+    }
+
+    // One more of the lines.
+    fn with(mut self, item: T) -> Result<Gathering<T>, Wrong>
+        ensures { MatchResult result (λ g. (g.left ≡ self.left - 1) × (g.items.items ≡ self.items.items ++ item ∷ [])) (λ w. w ≡ out_of_memory) }
+    {
+        self.items.push(item)?;
+        self.left = self.left.saturating_sub(1);
+        Ok(self)
+    }
+}
+
 // A block or a round whose lines are still to come.
 #[derive(Drop)]
 enum Pending {
     Nothing,
-    Block {
-        left: usize,
-        accesses: Vec<Access>,
-    },
-    Round {
-        left: usize,
-        conditions: Conditions,
-        readings: Vec<Reading>,
-    },
+    Block(Gathering<Access>),
+    Round(Conditions, Gathering<Reading>),
 }
 
 #[derive(Drop)]
@@ -38,144 +60,21 @@ pub struct Reader {
     pending: Pending,
 }
 
-fn call_of(access: Access) -> Call
-    ensures { asked result ≡ asked_by access }
-{
-    match access.kind {
-        Kind::Read => Call::Read {
-            offset: access.offset,
-        },
-        Kind::Write => Call::Write {
-            offset: access.offset,
-            word: access.word,
-        },
-    }
-}
+impl Model for Reader {
+    ghost use Rattle.std.specs.Prelude.{map};
+    ghost use Rattle.runs.specs.Calls.{asked};
+    ghost use Rattle.script.specs.Progress.{Progress, progress, opened_by};
 
-fn with_call(setup: Option<Setup>, mut calls: Vec<Call>, call: Call) -> Result<Reader, Wrong>
-    ensures { Reads result (Ok (called setup (map asked calls.items) (asked call))) }
-{
-    calls.push(call)?;
-    Ok(Reader {
-        setup,
-        calls,
-        pending: Pending::Nothing,
-    })
-}
+    ghost Value = { Progress };
 
-// A block of which `left` lines are to come.
-fn with_block(
-    setup: Option<Setup>,
-    calls: Vec<Call>,
-    left: usize,
-    accesses: Vec<Access>,
-) -> Result<Reader, Wrong>
-    ensures { Reads result (Ok (block_open setup (map asked calls.items) left accesses.items)) }
-{
-    if left == 0 {
-        return with_call(setup, calls, Call::Block { accesses });
-    }
-    Ok(Reader {
-        setup,
-        calls,
-        pending: Pending::Block { left, accesses },
-    })
-}
-
-fn with_round(
-    setup: Option<Setup>,
-    calls: Vec<Call>,
-    left: usize,
-    conditions: Conditions,
-    readings: Vec<Reading>,
-) -> Result<Reader, Wrong>
-    ensures { Reads result (Ok (round_open setup (map asked calls.items) left conditions readings.items)) }
-{
-    if left == 0 {
-        return with_call(
-            setup,
-            calls,
-            Call::Round {
-                conditions,
-                readings,
-            },
-        );
-    }
-    Ok(Reader {
-        setup,
-        calls,
-        pending: Pending::Round {
-            left,
-            conditions,
-            readings,
-        },
-    })
-}
-
-// A command between calls; the module comes first.
-fn with_command(
-    heap: Global,
-    setup: Option<Setup>,
-    calls: Vec<Call>,
-    command: Result<Command, Wrong>,
-) -> Result<Reader, Wrong>
-    ensures { Reads result (begun_by setup (map asked calls.items) command) }
-{
-    match (setup, command?) {
-        (None, Command::Module(first)) => Ok(Reader {
-            setup: Some(first),
-            calls,
-            pending: Pending::Nothing,
-        }),
-        (None, _) => Err(Wrong::NoModule),
-        (Some(_), Command::Module(_)) => Err(Wrong::SecondModule),
-        (Some(_), Command::Access(access)) => with_call(setup, calls, call_of(access)),
-        (Some(_), Command::Block { accesses }) => with_block(
-            setup,
-            calls,
-            accesses,
-            Vec::new(heap),
-        ),
-        (
-            Some(_),
-            Command::Round {
-                conditions,
-                readings,
-            },
-        ) => { with_round(setup, calls, readings, conditions, Vec::new(heap)) }
-    }
-}
-
-fn with_access(
-    setup: Option<Setup>,
-    calls: Vec<Call>,
-    left: usize,
-    mut accesses: Vec<Access>,
-    access: Result<Access, Wrong>,
-) -> Result<Reader, Wrong>
-    ensures { Reads result (block_grown setup (map asked calls.items) left accesses.items access) }
-{
-    accesses.push(access?)?;
-    with_block(setup, calls, left.saturating_sub(1), accesses)
-}
-
-fn with_reading(
-    setup: Option<Setup>,
-    calls: Vec<Call>,
-    left: usize,
-    conditions: Conditions,
-    mut readings: Vec<Reading>,
-    reading: Result<Reading, Wrong>,
-) -> Result<Reader, Wrong>
-    ensures { Reads result (round_grown setup (map asked calls.items) left conditions readings.items reading) }
-{
-    readings.push(reading?)?;
-    with_round(setup, calls, left.saturating_sub(1), conditions, readings)
+    ghost view = { λ r. progress r.setup (map asked r.calls.items) (opened_by r.pending) };
 }
 
 impl Reader {
+    ghost use Rattle.script.specs.Progress.{progress, nothing, Reads, asked_by, called, opening, opened_by, begun, taken, ended, whole_by};
+
     pub(crate) fn new(heap: Global) -> Reader
-        ensures { progress_of result ≡ progress None [] nothing }
+        ensures { result ≡ progress None [] nothing }
     {
         Reader {
             setup: None,
@@ -184,38 +83,92 @@ impl Reader {
         }
     }
 
-    // One more line, by its words.
-    pub(crate) fn take(self, heap: Global, words: &[&str]) -> Result<Reader, Wrong>
-        ensures { Takes (progress_of self) words.now result }
+    // No `From`: both types are those of other crates.
+    fn call_of(access: Access) -> Call
+        ensures { asked result ≡ asked_by access }
     {
-        let Reader {
-            setup,
-            calls,
-            pending,
-        } = self;
+        let Access { kind, offset, word } = access;
+        match kind {
+            Kind::Read => Call::Read { offset },
+            Kind::Write => Call::Write { offset, word },
+        }
+    }
+
+    fn with_call(mut self, call: Call) -> Result<Reader, Wrong>
+        ensures { Reads result (Ok (called self (asked call))) }
+    {
+        self.calls.push(call)?;
+        self.pending = Pending::Nothing;
+        Ok(self)
+    }
+
+    // A block or a round is a call once none of its lines is to come.
+    fn with_pending(mut self, pending: Pending) -> Result<Reader, Wrong>
+        ensures { Reads result (Ok (opening self (opened_by pending))) }
+    {
         match pending {
-            Pending::Nothing => with_command(heap, setup, calls, command_of(words)),
-            Pending::Block { left, accesses } => {
-                with_access(setup, calls, left, accesses, block_access(words))
+            Pending::Block(Gathering { left: 0, items }) => {
+                self.with_call(Call::Block { accesses: items })
             }
-            Pending::Round {
-                left,
-                conditions,
-                readings,
-            } => with_reading(
-                setup,
-                calls,
-                left,
-                conditions,
-                readings,
-                round_reading(words),
-            ),
+            Pending::Round(conditions, Gathering { left: 0, items }) => {
+                self.with_call(Call::Round {
+                    conditions,
+                    readings: items,
+                })
+            }
+            pending => {
+                self.pending = pending;
+                Ok(self)
+            }
+        }
+    }
+
+    // A command between calls; the module comes first.
+    fn with_command(mut self, heap: Global, command: Command) -> Result<Reader, Wrong>
+        ensures { Reads result (begun self.setup self command) }
+    {
+        match (self.setup, command) {
+            (None, Command::Module(first)) => {
+                self.setup = Some(first);
+                self.pending = Pending::Nothing;
+                Ok(self)
+            }
+            (None, _) => Err(Wrong::NoModule),
+            (Some(_), Command::Module(_)) => Err(Wrong::SecondModule),
+            (Some(_), Command::Access(access)) => self.with_call(Self::call_of(access)),
+            (Some(_), Command::Block { accesses }) => {
+                self.with_pending(Pending::Block(Gathering::new(heap, accesses)))
+            }
+            (
+                Some(_),
+                Command::Round {
+                    conditions,
+                    readings,
+                },
+            ) => self.with_pending(Pending::Round(conditions, Gathering::new(heap, readings))),
+        }
+    }
+
+    // One more line, by its words.
+    pub(crate) fn take(mut self, heap: Global, words: &[&str]) -> Result<Reader, Wrong>
+        ensures { Reads result (taken self words.now) }
+    {
+        match mem::replace(&mut self.pending, Pending::Nothing) {
+            Pending::Nothing => self.with_command(heap, command_of(words)?),
+            Pending::Block(block) => {
+                let block = block.with(block_access(words)?)?;
+                self.with_pending(Pending::Block(block))
+            }
+            Pending::Round(conditions, readings) => {
+                let readings = readings.with(round_reading(words)?)?;
+                self.with_pending(Pending::Round(conditions, readings))
+            }
         }
     }
 
     // The script, if it may end here.
     pub(crate) fn finish(self) -> Result<Script, Wrong>
-        ensures { whole_by result ≡ ended (progress_of self) }
+        ensures { whole_by result ≡ ended self }
     {
         let Reader {
             setup,
@@ -227,8 +180,8 @@ impl Reader {
                 let setup = setup.ok_or(Wrong::NoModule)?;
                 Ok(Script { setup, calls })
             }
-            Pending::Block { .. } => Err(Wrong::EndInBlock),
-            Pending::Round { .. } => Err(Wrong::EndInRound),
+            Pending::Block(_) => Err(Wrong::EndInBlock),
+            Pending::Round(..) => Err(Wrong::EndInRound),
         }
     }
 }

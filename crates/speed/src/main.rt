@@ -10,8 +10,7 @@ use checksum::Checksum;
 use module::Module;
 use stage::{DirectStage, DistributorStage, Stage};
 use std::io;
-use std::time::Instant;
-use times::{Times, nanoseconds};
+use times::{Times, time_calls};
 use values::Model;
 
 // Every kind of call once, each timed alone.
@@ -21,19 +20,11 @@ fn repeat<S: Stage>(
     offsets: &[u16],
     sum: &mut Checksum,
 ) -> io::Result<Times> {
-    let begin = Instant::now(rt)?;
-    let calls = work::read_all(module, offsets, sum);
-    let read = nanoseconds(begin.elapsed(rt)?, calls);
-    let begin = Instant::now(rt)?;
-    let calls = work::write_all(module, sum);
-    let write = nanoseconds(begin.elapsed(rt)?, calls);
-    let begin = Instant::now(rt)?;
-    let calls = work::ramp_all(module, sum);
-    let round = nanoseconds(begin.elapsed(rt)?, calls);
+    let read = time_calls(rt, || work::read_all(module, offsets, sum))?;
+    let write = time_calls(rt, || work::write_all(module, sum))?;
+    let round = time_calls(rt, || work::ramp_all(module, sum))?;
     work::add_levels(module, sum);
-    let begin = Instant::now(rt)?;
-    let calls = work::block_all(rt.alloc(), module, sum)?;
-    let block = nanoseconds(begin.elapsed(rt)?, calls);
+    let block = time_calls(rt, || work::block_all(module, sum))?;
     Ok(Times {
         read,
         write,
@@ -44,7 +35,7 @@ fn repeat<S: Stage>(
 
 fn time_module<S: Stage>(rt: &HostRuntime, name: &str, module: &mut Module<S>) -> io::Result<()> {
     let offsets = work::placed_offsets(rt.alloc(), module)?;
-    let mut sum = Checksum::new();
+    let mut sum = Checksum::default();
     work::start(module, &mut sum);
     let mut best = repeat(rt, module, &offsets, &mut sum)?;
     for _ in 0..4 {

@@ -1,8 +1,9 @@
 // Nanoseconds a call.
-use std::fmt;
-use std::time::Duration;
+use std::num::nearest_usize_to_f64;
+use std::time::Instant;
+use std::{fmt, io};
 
-#[derive(Clone, Copy)]
+#[derive(Clone, Copy, PartialEq, Debug)]
 pub struct Times {
     pub read: f64,
     pub write: f64,
@@ -10,34 +11,32 @@ pub struct Times {
     pub block: f64,
 }
 
-pub(crate) fn nanoseconds(time: Duration, calls: u32) -> f64 {
-    time.as_secs_f64() * 1e9 / (calls as f64)
-}
-
-fn lesser(one: f64, other: f64) -> f64 {
-    if one < other { one } else { other }
+// Times what answers how many calls it made.
+pub(crate) fn time_calls<F: FnOnce() -> usize>(rt: &HostRuntime, run: F) -> io::Result<f64>
+    requires { F.IsAlwaysCallable run }
+{
+    let begin = Instant::now(rt)?;
+    let calls = run();
+    Ok(begin.elapsed(rt)?.as_secs_f64() * 1e9 / nearest_usize_to_f64(calls))
 }
 
 impl Times {
     pub(crate) fn least(self, other: Times) -> Times {
         Times {
-            read: lesser(self.read, other.read),
-            write: lesser(self.write, other.write),
-            round: lesser(self.round, other.round),
-            block: lesser(self.block, other.block),
+            read: self.read.min(other.read),
+            write: self.write.min(other.write),
+            round: self.round.min(other.round),
+            block: self.block.min(other.block),
         }
     }
 }
 
 impl fmt::Display for Times {
     fn fmt<W: fmt::Write>(&self, f: &mut fmt::Formatter<W>) -> fmt::Result {
-        let read = self.read;
-        let write = self.write;
-        let round = self.round;
-        let block = self.block;
         write!(
             f,
-            "read {read:.2} write {write:.2} round {round:.1} block of eight {block:.1}"
+            "read {:.2} write {:.2} round {:.1} block of eight {:.1}",
+            self.read, self.write, self.round, self.block
         )
     }
 }

@@ -3,6 +3,7 @@ use crate::checksum::Checksum;
 use module::{Access, Kind, Module};
 use stage::Stage;
 use std::alloc::{AllocError, Global};
+use std::array;
 use table::{Amounts, Conditions, Reading};
 
 const READ_TURNS: u32 = 4_000;
@@ -24,26 +25,21 @@ pub(crate) fn placed_offsets<S: Stage>(
     heap: Global,
     module: &Module<S>,
 ) -> Result<Vec<u16>, AllocError> {
-    let mut offsets = Vec::new(heap);
-    for place in 0..512u16 {
-        if module.read(2 * place).is_ok() {
-            offsets.push(2 * place)?;
-        }
-    }
-    Ok(offsets)
+    (0..=0x3FE)
+        .step_by(2)
+        .filter(|offset| module.read(*offset).is_ok())
+        .collect(heap)
 }
 
 // Each function below answers how many calls it made.
 
-pub(crate) fn read_all<S: Stage>(module: &Module<S>, offsets: &[u16], sum: &mut Checksum) -> u32 {
-    let mut calls: u32 = 0;
+pub(crate) fn read_all<S: Stage>(module: &Module<S>, offsets: &[u16], sum: &mut Checksum) -> usize {
     for _ in 0..READ_TURNS {
         for offset in offsets {
-            sum.add_word(module.read(*offset));
-            calls = calls.wrapping_add(1);
+            sum.add_answer(module.read(*offset).map(u32::from));
         }
     }
-    calls
+    offsets.len().saturating_mul(READ_TURNS as usize)
 }
 
 // Where VoltageSet of a channel begins.
@@ -67,12 +63,13 @@ fn write_halves<S: Stage>(
     lower: u16,
     sum: &mut Checksum,
 ) {
-    sum.add_done(module.write(offset, upper));
-    sum.add_done(module.write(offset.wrapping_add(2), lower));
+    for (offset, word) in [(offset, upper), (offset.wrapping_add(2), lower)] {
+        sum.add_answer(module.write(offset, word).map(|()| 1));
+    }
 }
 
 // Both halves of VoltageSet of each channel in turn.
-pub(crate) fn write_all<S: Stage>(module: &mut Module<S>, sum: &mut Checksum) -> u32 {
+pub(crate) fn write_all<S: Stage>(module: &mut Module<S>, sum: &mut Checksum) -> usize {
     for turn in 0..WRITE_TURNS {
         for channel in 0..12u16 {
             write_halves(
@@ -84,7 +81,7 @@ pub(crate) fn write_all<S: Stage>(module: &mut Module<S>, sum: &mut Checksum) ->
             );
         }
     }
-    WRITE_TURNS * 24
+    WRITE_TURNS as usize * 24
 }
 
 fn conditions() -> Conditions {
@@ -100,22 +97,18 @@ fn conditions() -> Conditions {
 }
 
 fn readings() -> [Reading; 12] {
-    let mut all = [Reading {
-        voltage: 500.0,
+    array::from_fn(|k| Reading {
+        voltage: 500.0 + k as f32,
         current: 0.001,
         inhibit_low: false,
-    }; 12];
-    for k in 0..12usize {
-        all[k].voltage = 500.0 + (k as u8) as f32;
-    }
-    all
+    })
 }
 
 fn rounds<S: Stage>(module: &mut Module<S>, turns: u32, sum: &mut Checksum) {
     let conditions = conditions();
     let readings = readings();
     for _ in 0..turns {
-        sum.add_done(module.round(&conditions, &readings));
+        sum.add_answer(module.round(&conditions, &readings).map(|()| 1));
     }
 }
 
@@ -128,72 +121,54 @@ pub(crate) fn start<S: Stage>(module: &mut Module<S>, sum: &mut Checksum) {
 }
 
 // Up towards 2,000 V and down towards 0 V; neither is reached.
-pub(crate) fn ramp_all<S: Stage>(module: &mut Module<S>, sum: &mut Checksum) -> u32 {
+pub(crate) fn ramp_all<S: Stage>(module: &mut Module<S>, sum: &mut Checksum) -> usize {
     write_halves(module, GROUP_VOLTAGE, 0x44FA, 0, sum);
     rounds(module, RAMP_ROUNDS, sum);
     write_halves(module, GROUP_VOLTAGE, 0, 0, sum);
     rounds(module, RAMP_ROUNDS, sum);
-    2 * RAMP_ROUNDS
+    2 * RAMP_ROUNDS as usize
 }
 
-fn reading_of(offset: u16) -> Access {
+fn access_of(kind: Kind, offset: u16) -> Access {
     Access {
-        kind: Kind::Read,
-        offset,
-        word: 0,
-    }
-}
-
-fn writing_of(offset: u16) -> Access {
-    Access {
-        kind: Kind::Write,
+        kind,
         offset,
         word: 0,
     }
 }
 
 // VoltageSet is written and read back; then the status, the events and VoltageMeasure are read.
-fn block_of(heap: Global, channel: u16) -> Result<Vec<Access>, AllocError> {
+fn block_of(channel: u16) -> [Access; 8] {
     let begins = 0x60 + 0x30 * (channel % 12);
-    let list = vec![in heap;
-        writing_of(begins + 0x08),
-        writing_of(begins + 0x0A),
-        reading_of(begins + 0x08),
-        reading_of(begins + 0x0A),
-        reading_of(begins),
-        reading_of(begins + 0x04),
-        reading_of(begins + 0x10),
-        reading_of(begins + 0x12),
-    ]?;
-    Ok(list)
+    [
+        access_of(Kind::Write, begins + 0x08),
+        access_of(Kind::Write, begins + 0x0A),
+        access_of(Kind::Read, begins + 0x08),
+        access_of(Kind::Read, begins + 0x0A),
+        access_of(Kind::Read, begins),
+        access_of(Kind::Read, begins + 0x04),
+        access_of(Kind::Read, begins + 0x10),
+        access_of(Kind::Read, begins + 0x12),
+    ]
 }
 
-fn blocks<S: Stage>(module: &mut Module<S>, list: &mut [Access], sum: &mut Checksum) {
+fn blocks<S: Stage>(module: &mut Module<S>, list: &mut [Access; 8], sum: &mut Checksum) {
     for turn in 0..BLOCK_TURNS {
-        if list.len() > 1 {
-            list[0].word = upper_half(turn);
-            list[1].word = lower_half(turn);
-        }
-        match module.block(list) {
-            Ok(_) => sum.add(8),
-            Err(refused) => sum.add_refusal(refused.fault),
-        }
+        list[0].word = upper_half(turn);
+        list[1].word = lower_half(turn);
+        let done = module.block(list).map(|_| 8);
+        sum.add_answer(done.map_err(|refused| refused.fault));
         for access in list.iter() {
-            sum.add(access.word as u32);
+            sum.add(u32::from(access.word));
         }
     }
 }
 
-pub(crate) fn block_all<S: Stage>(
-    heap: Global,
-    module: &mut Module<S>,
-    sum: &mut Checksum,
-) -> Result<u32, AllocError> {
-    for channel in 0..12u16 {
-        let mut list = block_of(heap, channel)?;
-        blocks(module, list.as_mut_slice(), sum);
+pub(crate) fn block_all<S: Stage>(module: &mut Module<S>, sum: &mut Checksum) -> usize {
+    for channel in 0..12 {
+        blocks(module, &mut block_of(channel), sum);
     }
-    Ok(BLOCK_TURNS * 12)
+    BLOCK_TURNS as usize * 12
 }
 
 pub(crate) fn add_levels<S: Stage>(module: &Module<S>, sum: &mut Checksum) {

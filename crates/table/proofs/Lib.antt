@@ -1,6 +1,5 @@
-pub mod Any
-pub mod Changing
 pub mod Collecting
+pub mod Placing
 pub mod Ramping
 pub mod RoundLawsBits
 pub mod RoundLawsChannel

@@ -3,7 +3,7 @@ use Rattle.std.proofs.Common.{◌≡◌, ℕ, ◌+◌, ◌-◌, ◌<◌, ◌≤�
 use Rattle.std.proofs.lemmas.Bool.{cases_lt, lt-ltb, le-ltb, eq-eqb, ne_eqb, and_parts, and_from, and_left, and_right, or_left, or_right, not-true, not_from_true, not_from_false, cond-true, cond-false, cond_both, or_parts, not-false}
 use Rattle.values.specs.Ranges.{zero}
 use Rattle.values.specs.Steps.{set_steps}
-use Rattle.table.specs.declared.records.Amounts.{Amounts}
+use Rattle.table.specs.Both.{Amounts}
 use Rattle.table.specs.declared.records.Channel.{Channel}
 use Rattle.table.specs.declared.round.Pass.{Pass}
 use Rattle.table.specs.declared.round.Reading.{Reading}

@@ -3,9 +3,8 @@ use Rattle.std.proofs.Common.{◌≡◌, ℕ, Bool, true, false, not, ◌&&◌, 
 use lib.Bits.{bit_or, or_comm}
 use Rattle.std.proofs.lemmas.Bool.{and_from, and_left, not_from_true, not_from_false, cond-true, cond-false, cond_both}
 use Rattle.values.specs.Ranges.{zero}
-use Rattle.table.specs.declared.records.Amounts.{Amounts}
+use Rattle.table.specs.Both.{Amounts, Flags}
 use Rattle.table.specs.declared.records.Channel.{Channel}
-use Rattle.table.specs.declared.records.Flags.{Flags}
 use Rattle.table.specs.declared.round.Pass.{Pass}
 use Rattle.table.specs.declared.round.Reading.{Reading}
 use Rattle.table.specs.Changes.{with_voltage}

@@ -1,5 +1,6 @@
 -- What carrying out an order does, and when it is refused.
-use Rattle.std.specs.Prelude.{ℕ, ◌-◌, ◌<◌, min, Bool, true, false, cond, not, ◌++◌, map, drop, Ok, Err, Result, ◌==◌, bit_and, bit_or, nat_lt, Float}
+use Rattle.std.specs.Prelude.{ℕ, ◌-◌, ◌<◌, min, Bool, true, false, cond, not, ◌++◌, map, drop, Ok, Err, Result, ◌==◌, bit_and, bit_or, nat_lt}
+use Rattle.std.specs.List.{list_any}
 use Rattle.values.specs.declared.model.Model.{Model}
 use Rattle.values.specs.Ranges.{voltage_admitted, current_admitted, speed_admitted}
 use Rattle.registers.specs.declared.fault.ModuleFault.{ModuleFault}
@@ -10,12 +11,13 @@ use Rattle.table.specs.declared.change.Change.{Change}
 use Rattle.table.specs.declared.change.Change.TheVariants as change
 use Rattle.table.specs.declared.order.Order.{Order}
 use Rattle.table.specs.declared.order.Order.TheVariants as order
+use Rattle.table.specs.declared.setting.Setting.{Setting}
 use Rattle.table.specs.declared.carrying.Drive.{Drive}
 use Rattle.table.specs.declared.carrying.Drive.TheVariants as drive
-use Rattle.table.specs.Changes.{changed, switch_refused, with_voltage, with_current}
+use Rattle.table.specs.Changes.{changed, switch_refused, with_set_value, with_set_bound}
 use Rattle.table.specs.Orders.{Subject, of_module, of_channel, of_all, subject_of, Quantity, volts, amperes, percent, on_off, bits, quantity_of, Switching, unswitched, turned_on, emergency, switching_of, sets_emergency, sets_on}
 use Rattle.table.specs.Parts.{with_channels, with_channel, with_kill_enable, with_events, with_mask, with_channel_events, with_channel_mask, with_speed, with_groups}
-use Rattle.table.specs.Reads.{channel_of, placed, passes, placed_channels, any_of}
+use Rattle.table.specs.Reads.{channel_of, placed, passes, placed_channels}
 
 -- bit 14 of a ModuleControl word is KillEnable, bit 6 is doCLEAR
 abbrev pub kill_enable : ℕ → Bool
@@ -49,17 +51,8 @@ controlled n t w = with_kill_enable (cond (do_clear w) (cleared n t) t) (kill_en
 
 -- a group keeps its last accepted value
 
-abbrev pub with_group_voltage : Groups → Float → Groups
-with_group_voltage g v = record { setpoint = with_voltage g.setpoint v; bounds = g.bounds; emergency = g.emergency; on_off = g.on_off }
-
-abbrev pub with_group_current : Groups → Float → Groups
-with_group_current g v = record { setpoint = with_current g.setpoint v; bounds = g.bounds; emergency = g.emergency; on_off = g.on_off }
-
-abbrev pub with_group_voltage_bounds : Groups → Float → Groups
-with_group_voltage_bounds g v = record { setpoint = g.setpoint; bounds = with_voltage g.bounds v; emergency = g.emergency; on_off = g.on_off }
-
-abbrev pub with_group_current_bounds : Groups → Float → Groups
-with_group_current_bounds g v = record { setpoint = g.setpoint; bounds = with_current g.bounds v; emergency = g.emergency; on_off = g.on_off }
+abbrev pub with_group_setting : Groups → Setting → Groups
+with_group_setting g x = record { setpoint = with_set_value g.setpoint x; bounds = with_set_bound g.bounds x; emergency = g.emergency; on_off = g.on_off }
 
 abbrev pub with_emergency : Groups → ℕ → Groups
 with_emergency g d = record { setpoint = g.setpoint; bounds = g.bounds; emergency = d; on_off = g.on_off }
@@ -82,14 +75,8 @@ obeyed n t (order.RampSpeed v) = with_speed t v
 obeyed n t (order.ChannelControl k w) = changed_at t k (control_change w)
 obeyed n t (order.ClearChannelEvents k w) = changed_at t k (change.ClearEvents w)
 obeyed n t (order.ChannelEventMask k w) = changed_at t k (change.EventMask w)
-obeyed n t (order.VoltageSet k v) = changed_at t k (change.Voltage v)
-obeyed n t (order.CurrentSet k v) = changed_at t k (change.Current v)
-obeyed n t (order.VoltageBounds k v) = changed_at t k (change.VoltageBounds v)
-obeyed n t (order.CurrentBounds k v) = changed_at t k (change.CurrentBounds v)
-obeyed n t (order.GroupVoltage v) = with_groups (changed_all n t (change.Voltage v)) (with_group_voltage t.groups v)
-obeyed n t (order.GroupCurrent v) = with_groups (changed_all n t (change.Current v)) (with_group_current t.groups v)
-obeyed n t (order.GroupVoltageBounds v) = with_groups (changed_all n t (change.VoltageBounds v)) (with_group_voltage_bounds t.groups v)
-obeyed n t (order.GroupCurrentBounds v) = with_groups (changed_all n t (change.CurrentBounds v)) (with_group_current_bounds t.groups v)
+obeyed n t (order.ChannelSetting k x) = changed_at t k (change.Set x)
+obeyed n t (order.GroupSetting x) = with_groups (changed_all n t (change.Set x)) (with_group_setting t.groups x)
 obeyed n t (order.GroupEmergency d) = with_groups (changed_all n t change.EmergencyOff) (with_emergency t.groups d)
 obeyed n t (order.GroupSwitch d) = with_groups (changed_all n t (change.Switch (d == 1))) (with_on_off t.groups d)
 
@@ -130,7 +117,7 @@ blocked_switch n t (of_channel k) unswitched = false
 blocked_switch n t (of_channel k) turned_on = switch_refused (module_passes t) (channel_of t k)
 blocked_switch n t (of_channel k) emergency = false
 blocked_switch n t of_all unswitched = false
-blocked_switch n t of_all turned_on = any_of (switch_refused (module_passes t)) (placed n t)
+blocked_switch n t of_all turned_on = list_any (switch_refused (module_passes t)) (placed n t)
 blocked_switch n t of_all emergency = false
 
 -- carried out whole, or refused with the first number that fits

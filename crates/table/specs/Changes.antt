@@ -1,9 +1,11 @@
 -- What an order does to one channel.
 use Rattle.std.specs.Prelude.{ℕ, ◌-◌, Bool, true, false, not, ◌&&◌, ◌||◌, bit_and, bit_or, Float}
-use Rattle.table.specs.declared.records.Amounts.{Amounts}
+use Rattle.table.specs.Both.{Amounts}
 use Rattle.table.specs.declared.records.Channel.{Channel}
 use Rattle.table.specs.declared.change.Change.{Change}
 use Rattle.table.specs.declared.change.Change.TheVariants as change
+use Rattle.table.specs.declared.setting.Setting.{Setting}
+use Rattle.table.specs.declared.setting.Setting.TheVariants as setting
 use Rattle.table.specs.Words.{bit}
 use Rattle.table.specs.Reads.{passes}
 
@@ -61,6 +63,20 @@ with_voltage a v = record { voltage = v; current = a.current }
 abbrev pub with_current : Amounts → Float → Amounts
 with_current a v = record { voltage = a.voltage; current = v }
 
+-- the set values, and the bounds, after a value is set
+
+abbrev pub with_set_value : Amounts → Setting → Amounts
+with_set_value a (setting.Voltage v) = with_voltage a v
+with_set_value a (setting.Current v) = with_current a v
+with_set_value a (setting.VoltageBounds v) = a
+with_set_value a (setting.CurrentBounds v) = a
+
+abbrev pub with_set_bound : Amounts → Setting → Amounts
+with_set_bound a (setting.Voltage v) = a
+with_set_bound a (setting.Current v) = a
+with_set_bound a (setting.VoltageBounds v) = with_voltage a v
+with_set_bound a (setting.CurrentBounds v) = with_current a v
+
 -- EOn2Off, if isON falls
 abbrev pub falling : Channel → Bool → ℕ
 falling c on = bit 0x0008 (c.on && not on)
@@ -78,10 +94,7 @@ abbrev pub channel_mask_bits : ℕ
 channel_mask_bits = 0xFCFC
 
 abbrev pub changed : Channel → Change → Channel
-changed c (change.Voltage v) = with_values c (with_voltage c.setpoint v) c.bounds
-changed c (change.Current v) = with_values c (with_current c.setpoint v) c.bounds
-changed c (change.VoltageBounds v) = with_values c c.setpoint (with_voltage c.bounds v)
-changed c (change.CurrentBounds v) = with_values c c.setpoint (with_current c.bounds v)
+changed c (change.Set x) = with_values c (with_set_value c.setpoint x) (with_set_bound c.bounds x)
 changed c change.EmergencyOff = emergency_off c
 changed c (change.Switch on) = switched c on
 changed c (change.ClearEvents w) = with_events c c.kill c.error (bit_and c.events (0xFFFF - w)) c.mask

@@ -1,3 +1,4 @@
+pub mod Both
 pub mod Carrying
 pub mod Changes
 pub mod New

@@ -1,13 +1,11 @@
 -- The records of a new module.
-use Rattle.std.specs.Prelude.{true, false, replicate, from_bits, Float}
+use Rattle.std.specs.Prelude.{true, false, replicate, None, from_bits, Float}
 use Rattle.std.specs.Float.{binary32}
 use Rattle.values.specs.declared.model.Model.{Model}
 use Rattle.values.specs.Model.{nominal_current}
-use Rattle.table.specs.declared.records.Amounts.{Amounts}
-use Rattle.table.specs.declared.records.Flags.{Flags}
+use Rattle.table.specs.Both.{Amounts, Flags}
 use Rattle.table.specs.declared.records.Findings.{Findings}
 use Rattle.table.specs.declared.records.Channel.{Channel}
-use Rattle.table.specs.declared.records.Held.TheVariants.{Nothing}
 use Rattle.table.specs.declared.records.Conditions.{Conditions}
 use Rattle.table.specs.declared.records.Groups.{Groups}
 use Rattle.table.specs.declared.records.Table.{Table}
@@ -55,7 +53,7 @@ abbrev pub new_table : Model → Table
 new_table m = record {
   model = m;
   channels = replicate 12 (new_channel m);
-  held = Nothing;
+  held = None;
   kill_enable = false;
   events = 0;
   mask = 0;

@@ -1,5 +1,5 @@
 -- The order that each completed write makes.
-use Rattle.std.specs.Prelude.{ℕ, ◌+◌, ◌*◌, ◌<◌, Bool, cond, not, Some, None, Option, ◌==◌, bit_and, Float}
+use Rattle.std.specs.Prelude.{ℕ, ◌+◌, ◌*◌, Bool, cond, not, Some, None, Option, ◌==◌, bit_and, Float}
 use Rattle.values.specs.Words.{value_of}
 use Rattle.registers.specs.declared.place.ModuleWord.{ModuleWord}
 use Rattle.registers.specs.declared.place.ModuleWord.TheVariants as mw
@@ -17,6 +17,8 @@ use Rattle.registers.specs.declared.place.ValueRegister.{ValueRegister}
 use Rattle.registers.specs.declared.place.ValueRegister.TheVariants as vr
 use Rattle.table.specs.declared.order.Order.{Order}
 use Rattle.table.specs.declared.order.Order.TheVariants as order
+use Rattle.table.specs.declared.setting.Setting.{Setting}
+use Rattle.table.specs.declared.setting.Setting.TheVariants as setting
 
 -- none: the register is read only
 
@@ -47,21 +49,21 @@ module_value_order mv.CurrentMax v = None
 module_value_order mv.Temperature v = None
 
 abbrev pub channel_order : ℕ → ChannelValue → Float → Option Order
-channel_order k cv.VoltageSet v = Some (order.VoltageSet k v)
-channel_order k cv.CurrentSet v = Some (order.CurrentSet k v)
+channel_order k cv.VoltageSet v = Some (order.ChannelSetting k (setting.Voltage v))
+channel_order k cv.CurrentSet v = Some (order.ChannelSetting k (setting.Current v))
 channel_order k cv.VoltageMeasure v = None
 channel_order k cv.CurrentMeasure v = None
-channel_order k cv.VoltageBounds v = Some (order.VoltageBounds k v)
-channel_order k cv.CurrentBounds v = Some (order.CurrentBounds k v)
+channel_order k cv.VoltageBounds v = Some (order.ChannelSetting k (setting.VoltageBounds v))
+channel_order k cv.CurrentBounds v = Some (order.ChannelSetting k (setting.CurrentBounds v))
 channel_order k cv.VoltageNominal v = None
 channel_order k cv.CurrentNominal v = None
 
 -- the emergency and on/off groups take their 32 bits as a number
 abbrev pub group_order : GroupValue → ℕ → ℕ → Order
-group_order gv.Voltage u l = order.GroupVoltage (value_of u l)
-group_order gv.Current u l = order.GroupCurrent (value_of u l)
-group_order gv.VoltageBounds u l = order.GroupVoltageBounds (value_of u l)
-group_order gv.CurrentBounds u l = order.GroupCurrentBounds (value_of u l)
+group_order gv.Voltage u l = order.GroupSetting (setting.Voltage (value_of u l))
+group_order gv.Current u l = order.GroupSetting (setting.Current (value_of u l))
+group_order gv.VoltageBounds u l = order.GroupSetting (setting.VoltageBounds (value_of u l))
+group_order gv.CurrentBounds u l = order.GroupSetting (setting.CurrentBounds (value_of u l))
 group_order gv.Emergency u l = order.GroupEmergency (u * 65536 + l)
 group_order gv.OnOff u l = order.GroupSwitch (u * 65536 + l)
 
@@ -87,14 +89,8 @@ subject_of (order.RampSpeed v) = of_module
 subject_of (order.ChannelControl k w) = of_channel k
 subject_of (order.ClearChannelEvents k w) = of_channel k
 subject_of (order.ChannelEventMask k w) = of_channel k
-subject_of (order.VoltageSet k v) = of_channel k
-subject_of (order.CurrentSet k v) = of_channel k
-subject_of (order.VoltageBounds k v) = of_channel k
-subject_of (order.CurrentBounds k v) = of_channel k
-subject_of (order.GroupVoltage v) = of_all
-subject_of (order.GroupCurrent v) = of_all
-subject_of (order.GroupVoltageBounds v) = of_all
-subject_of (order.GroupCurrentBounds v) = of_all
+subject_of (order.ChannelSetting k x) = of_channel k
+subject_of (order.GroupSetting x) = of_all
 subject_of (order.GroupEmergency d) = of_all
 subject_of (order.GroupSwitch d) = of_all
 
@@ -106,6 +102,12 @@ pub data Quantity : Type 0 where
   on_off : ℕ → Quantity
   bits : Quantity
 
+abbrev pub quantity_set : Setting → Quantity
+quantity_set (setting.Voltage v) = volts v
+quantity_set (setting.Current v) = amperes v
+quantity_set (setting.VoltageBounds v) = volts v
+quantity_set (setting.CurrentBounds v) = amperes v
+
 abbrev pub quantity_of : Order → Quantity
 quantity_of (order.ModuleControl w) = bits
 quantity_of (order.ClearModuleEvents w) = bits
@@ -116,14 +118,8 @@ quantity_of (order.RampSpeed v) = percent v
 quantity_of (order.ChannelControl k w) = bits
 quantity_of (order.ClearChannelEvents k w) = bits
 quantity_of (order.ChannelEventMask k w) = bits
-quantity_of (order.VoltageSet k v) = volts v
-quantity_of (order.CurrentSet k v) = amperes v
-quantity_of (order.VoltageBounds k v) = volts v
-quantity_of (order.CurrentBounds k v) = amperes v
-quantity_of (order.GroupVoltage v) = volts v
-quantity_of (order.GroupCurrent v) = amperes v
-quantity_of (order.GroupVoltageBounds v) = volts v
-quantity_of (order.GroupCurrentBounds v) = amperes v
+quantity_of (order.ChannelSetting k x) = quantity_set x
+quantity_of (order.GroupSetting x) = quantity_set x
 quantity_of (order.GroupEmergency d) = bits
 quantity_of (order.GroupSwitch d) = on_off d
 
@@ -148,26 +144,7 @@ switching_of (order.RampSpeed v) = unswitched
 switching_of (order.ChannelControl k w) = cond (sets_emergency w) emergency (cond (sets_on w) turned_on unswitched)
 switching_of (order.ClearChannelEvents k w) = unswitched
 switching_of (order.ChannelEventMask k w) = unswitched
-switching_of (order.VoltageSet k v) = unswitched
-switching_of (order.CurrentSet k v) = unswitched
-switching_of (order.VoltageBounds k v) = unswitched
-switching_of (order.CurrentBounds k v) = unswitched
-switching_of (order.GroupVoltage v) = unswitched
-switching_of (order.GroupCurrent v) = unswitched
-switching_of (order.GroupVoltageBounds v) = unswitched
-switching_of (order.GroupCurrentBounds v) = unswitched
+switching_of (order.ChannelSetting k x) = unswitched
+switching_of (order.GroupSetting x) = unswitched
 switching_of (order.GroupEmergency d) = emergency
 switching_of (order.GroupSwitch d) = cond (d == 1) turned_on unswitched
-
--- the channel of an order, if it has one, is below n
-abbrev pub SubjectPlaced : ℕ → Subject → Type 0
-SubjectPlaced n of_module = Unit {0}
-SubjectPlaced n (of_channel k) = k < n
-SubjectPlaced n of_all = Unit {0}
-
-abbrev pub OrderPlaced : ℕ → Order → Type 0
-OrderPlaced n x = SubjectPlaced n (subject_of x)
-
-abbrev pub SomeOrderPlaced : ℕ → Option Order → Type 0
-SomeOrderPlaced n None = Unit {0}
-SomeOrderPlaced n (Some x) = OrderPlaced n x

@@ -1,15 +1,19 @@
 -- A table in which one part is another.
-use Rattle.std.specs.Prelude.{ℕ, Bool, List, slice_set, Float}
+use Rattle.std.specs.Prelude.{ℕ, Bool, List, Option, slice_set, Float}
 use Rattle.table.specs.declared.records.Channel.{Channel}
 use Rattle.table.specs.declared.records.Conditions.{Conditions}
 use Rattle.table.specs.declared.records.Groups.{Groups}
-use Rattle.table.specs.declared.records.Held.{Held}
+use Rattle.table.specs.declared.records.Half.{Half}
 use Rattle.table.specs.declared.records.Table.{Table}
+
+-- the upper half u, held for the lower half at the offset a
+abbrev pub half : ℕ → ℕ → Half
+half a u = record { awaited = a; word = u }
 
 abbrev pub with_channels : Table → List Channel → Table
 with_channels t x = record { model = t.model; channels = x; held = t.held; kill_enable = t.kill_enable; events = t.events; mask = t.mask; channel_events = t.channel_events; channel_mask = t.channel_mask; speed = t.speed; conditions = t.conditions; groups = t.groups }
 
-abbrev pub with_held : Table → Held → Table
+abbrev pub with_held : Table → Option Half → Table
 with_held t x = record { model = t.model; channels = t.channels; held = x; kill_enable = t.kill_enable; events = t.events; mask = t.mask; channel_events = t.channel_events; channel_mask = t.channel_mask; speed = t.speed; conditions = t.conditions; groups = t.groups }
 
 abbrev pub with_kill_enable : Table → Bool → Table

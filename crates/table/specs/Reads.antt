@@ -1,6 +1,7 @@
 -- What the registers of a module of n channels read.
-use Rattle.std.specs.Prelude.{ℕ, ◌+◌, ◌-◌, ◌/◌, ◌%◌, ◌^◌, min, Bool, false, not, ◌&&◌, ◌||◌, List, [], ◌∷◌, take, Ok, Err, Result, ◌==◌, bit_and, from_bits, slice_index_or, to_bits, Float}
+use Rattle.std.specs.Prelude.{ℕ, ◌+◌, ◌-◌, ◌/◌, ◌%◌, ◌^◌, min, Bool, false, not, ◌&&◌, ◌||◌, List, take, Ok, Err, Result, ◌==◌, bit_and, from_bits, slice_index_or, to_bits, Float}
 use Rattle.std.specs.Float.{binary32, nan}
+use Rattle.std.specs.List.{list_any}
 use Rattle.values.specs.Ranges.{at_most}
 use Rattle.registers.specs.declared.fault.ModuleFault.{ModuleFault}
 use Rattle.registers.specs.declared.place.ModuleWord.{ModuleWord}
@@ -16,8 +17,7 @@ use Rattle.registers.specs.declared.place.ValueRegister.TheVariants as vr
 use Rattle.registers.specs.declared.place.Place.{Place}
 use Rattle.registers.specs.declared.place.Place.TheVariants as place
 use Rattle.registers.specs.Map.{located}
-use Rattle.table.specs.declared.records.Amounts.{Amounts}
-use Rattle.table.specs.declared.records.Flags.{Flags}
+use Rattle.table.specs.Both.{Amounts, Flags}
 use Rattle.table.specs.declared.records.Channel.{Channel}
 use Rattle.table.specs.declared.records.Conditions.{Conditions}
 use Rattle.table.specs.declared.records.Groups.{Groups}
@@ -54,15 +54,11 @@ channel_of t k = slice_index_or t.channels k no_channel
 abbrev pub placed : ℕ → Table → List Channel
 placed n t = take (min n 12) t.channels
 
-abbrev pub any_of : (Channel → Bool) → List Channel → Bool
-any_of p [] = false
-any_of p (c ∷ cs) = p c || any_of p cs
-
 abbrev pub any_ramping : List Channel → Bool
-any_ramping = any_of (λ c. c.ramping)
+any_ramping = list_any (λ c. c.ramping)
 
 abbrev pub any_alarmed : List Channel → Bool
-any_alarmed = any_of alarmed
+any_alarmed = list_any alarmed
 
 -- an event that its mask lets through
 abbrev pub passes : ℕ → ℕ → Bool

@@ -4,7 +4,7 @@ use Rattle.std.specs.Float.Ieee.{lt}
 use Rattle.values.specs.Model.{nominal_voltage, nominal_current}
 use Rattle.values.specs.Ranges.{zero, at_most, out_of_bounds, stored_maximum, limit_value}
 use Rattle.values.specs.Steps.{set_steps, limit_steps, ramp_step}
-use Rattle.table.specs.declared.records.Amounts.{Amounts}
+use Rattle.table.specs.Both.{Amounts}
 use Rattle.table.specs.declared.records.Channel.{Channel}
 use Rattle.table.specs.declared.records.Conditions.{Conditions}
 use Rattle.table.specs.declared.records.Findings.{Findings}

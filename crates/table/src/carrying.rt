@@ -1,19 +1,21 @@
 // Carrying out an order.
-ghost use Rattle.std.specs.Prelude.{◌≡◌, ℕ, IfOk};
-ghost use Rattle.table.specs.Orders.{OrderPlaced, subject_of, quantity_of, switching_of};
+ghost use Rattle.std.specs.Prelude.{◌≡◌};
+ghost use Rattle.std.specs.List.{list_any};
+ghost use Rattle.table.specs.Orders.{subject_of, quantity_of, switching_of};
 ghost use Rattle.table.specs.Changes.{switch_refused};
-ghost use Rattle.table.specs.Reads.{any_of};
-ghost use Rattle.table.specs.Carrying.{control_change, changed_all, module_passes, controlled, obeyed, error_noted, admitted, drive_of, DrivePlaced, blocked_switch, carried, carried_answer};
+ghost use Rattle.table.specs.Reads.{channel_of, placed};
+ghost use Rattle.table.specs.Carrying.{control_change, changed_at, changed_all, module_passes, controlled, obeyed, error_noted, admitted, drive_of, blocked_switch, carried, carried_answer};
 
 use crate::change::Change;
+use crate::channel::passes;
 use crate::order::Order;
 use crate::reading::placed_channels;
-use crate::records::{Channel, Table};
+use crate::records::Table;
 use registers::ModuleFault;
-use values::{current_admitted, speed_admitted, voltage_admitted};
+use values::speed_admitted;
 
 // Which levels an order drives to 0.
-#[derive(Clone, Copy)]
+#[derive(Clone, Copy, Debug, PartialEq, Eq)]
 pub enum Drive {
     Nothing,
     ToZero { channel: usize },
@@ -33,21 +35,9 @@ fn control_change(word: u16) -> Change
     }
 }
 
-fn any_refuses_switch(channels: &[Channel], module_passes: bool) -> bool
-    ensures { result ≡ any_of (switch_refused module_passes) channels.now }
-{
-    for channel in channels {
-        if channel.refuses_switch(module_passes) {
-            return true;
-        }
-    }
-    false
-}
-
 impl Order {
     fn drive(self) -> Drive
-        ensures drive { result ≡ drive_of (subject_of self) (switching_of self) }
-        ensures placed { (n : ℕ) → OrderPlaced n self → DrivePlaced n result }
+        ensures { result ≡ drive_of (subject_of self) (switching_of self) }
     {
         match self {
             Order::ChannelControl { channel, word } if word & 0x0020 != 0 => Drive::ToZero {
@@ -63,15 +53,24 @@ impl Table {
     pub(crate) fn module_passes(&self) -> bool
         ensures { result ≡ module_passes self.now }
     {
-        self.events & self.mask != 0
+        passes(self.events, self.mask)
+    }
+
+    // One channel is changed, if it has a record.
+    fn change(&mut self, channel: usize, change: Change)
+        ensures { self.new ≡ changed_at self.old channel change }
+    {
+        if channel < self.channels.len() {
+            self.channels[channel].apply(change);
+        }
     }
 
     fn change_all(&mut self, change: Change, count: usize)
         ensures { self.new ≡ changed_all count self.old change }
     {
-        let all: &[Channel] = &self.channels;
-        for channel in 0..count.min(all.len()) {
-            self.channels[channel].apply(change);
+        let placed = &mut self.channels[..count.min(12)];
+        for channel in placed.iter_mut() {
+            channel.apply(change);
         }
     }
 
@@ -91,40 +90,48 @@ impl Table {
     {
         match order {
             Order::RampSpeed { percent } => speed_admitted(percent),
-            Order::VoltageSet { volts, .. } => voltage_admitted(volts, self.model),
-            Order::CurrentSet { amperes, .. } => current_admitted(amperes, self.model),
-            Order::VoltageBounds { volts, .. } => voltage_admitted(volts, self.model),
-            Order::CurrentBounds { amperes, .. } => current_admitted(amperes, self.model),
-            Order::GroupVoltage { volts } => voltage_admitted(volts, self.model),
-            Order::GroupCurrent { amperes } => current_admitted(amperes, self.model),
-            Order::GroupVoltageBounds { volts } => voltage_admitted(volts, self.model),
-            Order::GroupCurrentBounds { amperes } => current_admitted(amperes, self.model),
+            Order::ChannelSetting { setting, .. } | Order::GroupSetting { setting } => {
+                setting.admitted(self.model)
+            }
             Order::GroupSwitch { data } => data < 2,
             _ => true,
         }
     }
 
+    // A channel without a record has no events, and is off: only a module event blocks it.
+    fn refuses_switch(&self, channel: usize) -> bool
+        ensures { result ≡ switch_refused (module_passes self.now) (channel_of self.now channel) }
+    {
+        let module_passes = self.module_passes();
+        match self.channels.get(channel) {
+            Some(record) => record.refuses_switch(module_passes),
+            None => module_passes,
+        }
+    }
+
+    fn any_refuses_switch(&self, count: usize) -> bool
+        ensures { result ≡ list_any (switch_refused (module_passes self.now)) (placed count self.now) }
+    {
+        let module_passes = self.module_passes();
+        self.placed(count)
+            .iter()
+            .any(|channel| channel.refuses_switch(module_passes))
+    }
+
     // A blocked channel that is off would be switched on.
     fn blocks(&self, order: Order, count: usize) -> bool
-        requires { OrderPlaced 12 order }
         ensures { result ≡ blocked_switch count self.now (subject_of order) (switching_of order) }
     {
         match order {
             Order::ChannelControl { channel, word } => {
-                word & 0x0020 == 0
-                    && word & 0x0008 != 0
-                    && self.channels[channel].refuses_switch(self.module_passes())
+                word & 0x0020 == 0 && word & 0x0008 != 0 && self.refuses_switch(channel)
             }
-            Order::GroupSwitch { data } => {
-                data == 1
-                    && any_refuses_switch(&self.channels[0..count.min(12)], self.module_passes())
-            }
+            Order::GroupSwitch { data } => data == 1 && self.any_refuses_switch(count),
             _ => false,
         }
     }
 
     fn obey(&mut self, order: Order, count: usize)
-        requires { OrderPlaced 12 order }
         ensures { self.new ≡ obeyed count self.old order }
     {
         match order {
@@ -134,42 +141,22 @@ impl Table {
             Order::ClearCollectedEvents { word } => self.channel_events &= !word,
             Order::CollectedEventMask { word } => self.channel_mask = word & placed_channels(count),
             Order::RampSpeed { percent } => self.speed = percent,
-            Order::ChannelControl { channel, word } => self.channels[channel].apply(control_change(
-                word,
-            )),
-            Order::ClearChannelEvents { channel, word } => self.channels[channel].apply(
+            Order::ChannelControl { channel, word } => self.change(channel, control_change(word)),
+            Order::ClearChannelEvents { channel, word } => self.change(
+                channel,
                 Change::ClearEvents { word },
             ),
-            Order::ChannelEventMask { channel, word } => self.channels[channel].apply(
+            Order::ChannelEventMask { channel, word } => self.change(
+                channel,
                 Change::EventMask { word },
             ),
-            Order::VoltageSet { channel, volts } => {
-                self.channels[channel].apply(Change::Voltage { volts })
-            }
-            Order::CurrentSet { channel, amperes } => {
-                self.channels[channel].apply(Change::Current { amperes })
-            }
-            Order::VoltageBounds { channel, volts } => {
-                self.channels[channel].apply(Change::VoltageBounds { volts })
-            }
-            Order::CurrentBounds { channel, amperes } => {
-                self.channels[channel].apply(Change::CurrentBounds { amperes })
-            }
-            Order::GroupVoltage { volts } => {
-                self.change_all(Change::Voltage { volts }, count);
-                self.groups.setpoint.voltage = volts;
-            }
-            Order::GroupCurrent { amperes } => {
-                self.change_all(Change::Current { amperes }, count);
-                self.groups.setpoint.current = amperes;
-            }
-            Order::GroupVoltageBounds { volts } => {
-                self.change_all(Change::VoltageBounds { volts }, count);
-                self.groups.bounds.voltage = volts;
-            }
-            Order::GroupCurrentBounds { amperes } => {
-                self.change_all(Change::CurrentBounds { amperes }, count);
-                self.groups.bounds.current = amperes;
+            Order::ChannelSetting { channel, setting } => self.change(
+                channel,
+                Change::Set(setting),
+            ),
+            Order::GroupSetting { setting } => {
+                self.change_all(Change::Set(setting), count);
+                setting.store(&mut self.groups.setpoint, &mut self.groups.bounds);
             }
             Order::GroupEmergency { data } => {
                 self.change_all(Change::EmergencyOff, count);
@@ -184,19 +171,13 @@ impl Table {
 
     // The error bits of a value that is not admitted: its channel's, or the module's input error event.
     fn note_error(&mut self, order: Order)
-        requires { OrderPlaced 12 order }
         ensures { self.new ≡ error_noted self.old (subject_of order) }
     {
         match order {
             Order::ChannelControl { channel, .. }
             | Order::ClearChannelEvents { channel, .. }
             | Order::ChannelEventMask { channel, .. }
-            | Order::VoltageSet { channel, .. }
-            | Order::CurrentSet { channel, .. }
-            | Order::VoltageBounds { channel, .. }
-            | Order::CurrentBounds { channel, .. } => self.channels[channel].apply(
-                Change::InputError,
-            ),
+            | Order::ChannelSetting { channel, .. } => self.change(channel, Change::InputError),
             _ => self.events |= 0x0040,
         }
     }
@@ -208,10 +189,8 @@ impl Table {
         offset: u16,
         count: usize,
     ) -> Result<Drive, ModuleFault>
-        requires { OrderPlaced 12 order }
         ensures state { self.new ≡ carried count self.old order }
         ensures answer { result ≡ carried_answer count self.old order offset }
-        ensures placed { (n : ℕ) → OrderPlaced n order → IfOk result (DrivePlaced n) }
     {
         if !self.admits(order) {
             self.note_error(order);

@@ -2,15 +2,13 @@
 ghost use Rattle.std.specs.Prelude.{◌≡◌};
 ghost use Rattle.table.specs.Changes.{changed, emergency_off, switched, event_passes, blocked, switch_refused};
 
-use crate::channel::bit;
+use crate::channel::{bit, passes};
 use crate::records::Channel;
+use crate::setting::Setting;
 
-#[derive(Clone, Copy)]
+#[derive(Clone, Copy, Debug, PartialEq)]
 pub enum Change {
-    Voltage { volts: f32 },
-    Current { amperes: f32 },
-    VoltageBounds { volts: f32 },
-    CurrentBounds { amperes: f32 },
+    Set(Setting),
     EmergencyOff,
     Switch { on: bool },
     ClearEvents { word: u16 },
@@ -26,20 +24,8 @@ impl Channel {
         ensures { self.new ≡ changed self.old change }
     {
         match change {
-            Change::Voltage { volts } => {
-                self.setpoint.voltage = volts;
-                self.error = false;
-            }
-            Change::Current { amperes } => {
-                self.setpoint.current = amperes;
-                self.error = false;
-            }
-            Change::VoltageBounds { volts } => {
-                self.bounds.voltage = volts;
-                self.error = false;
-            }
-            Change::CurrentBounds { amperes } => {
-                self.bounds.current = amperes;
+            Change::Set(setting) => {
+                setting.store(&mut self.setpoint, &mut self.bounds);
                 self.error = false;
             }
             Change::EmergencyOff => self.emergency_off(),
@@ -92,6 +78,6 @@ impl Channel {
     pub fn event_passes(&self) -> bool
         ensures { result ≡ event_passes self.now }
     {
-        self.events & self.mask != 0
+        passes(self.events, self.mask)
     }
 }

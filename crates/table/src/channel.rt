@@ -1,5 +1,6 @@
 // The words of one channel.
 ghost use Rattle.std.specs.Prelude.{◌≡◌, ◌≤◌, cond};
+ghost use Rattle.table.specs.Reads.{passes};
 ghost use Rattle.table.specs.Words.{channel_status, channel_word, channel_bits, alarmed};
 
 use crate::records::Channel;
@@ -13,6 +14,13 @@ pub(crate) fn bit(set: bool, weight: u16) -> u16
     ensures most { result ≤ weight }
 {
     if set { weight } else { 0 }
+}
+
+// An event that its mask lets through.
+pub(crate) fn passes(events: u16, mask: u16) -> bool
+    ensures { result ≡ passes events mask }
+{
+    events & mask != 0
 }
 
 impl Channel {

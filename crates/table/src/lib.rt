@@ -8,8 +8,10 @@ pub mod order;
 pub mod reading;
 pub mod records;
 pub mod round;
+pub mod setting;
 pub mod writing;
 
 pub use carrying::Drive;
-pub use records::{Amounts, Channel, Conditions, Findings, Flags, Groups, Held, Table};
+pub use records::{Amounts, Both, Channel, Conditions, Findings, Flags, Groups, Half, Table};
 pub use round::{Pass, Reading};
+pub use setting::Setting;

@@ -1,14 +1,14 @@
 // The orders that completed writes make.
-ghost use Rattle.std.specs.Prelude.{◌≡◌, ℕ, ◌<◌};
-ghost use Rattle.registers.specs.Map.{WordPlaced, ValuePlaced};
-ghost use Rattle.table.specs.Orders.{module_word_order, word_order, channel_order, group_order, value_order, OrderPlaced, SomeOrderPlaced};
+ghost use Rattle.std.specs.Prelude.{◌≡◌};
+ghost use Rattle.table.specs.Orders.{module_word_order, word_order, channel_order, group_order, value_order};
 
+use crate::setting::Setting;
 use registers::{
     ChannelValue, ChannelWord, GroupValue, ModuleValue, ModuleWord, ValueRegister, WordRegister,
 };
-use values::join;
+use values::Words;
 
-#[derive(Clone, Copy)]
+#[derive(Clone, Copy, Debug, PartialEq)]
 pub enum Order {
     ModuleControl { word: u16 },
     ClearModuleEvents { word: u16 },
@@ -16,25 +16,19 @@ pub enum Order {
     ClearCollectedEvents { word: u16 },
     CollectedEventMask { word: u16 },
     RampSpeed { percent: f32 },
+    // Three cases and not one with a Change: no write clears one channel by doCLEAR or makes only an input error.
     ChannelControl { channel: usize, word: u16 },
     ClearChannelEvents { channel: usize, word: u16 },
     ChannelEventMask { channel: usize, word: u16 },
-    VoltageSet { channel: usize, volts: f32 },
-    CurrentSet { channel: usize, amperes: f32 },
-    VoltageBounds { channel: usize, volts: f32 },
-    CurrentBounds { channel: usize, amperes: f32 },
-    GroupVoltage { volts: f32 },
-    GroupCurrent { amperes: f32 },
-    GroupVoltageBounds { volts: f32 },
-    GroupCurrentBounds { amperes: f32 },
+    ChannelSetting { channel: usize, setting: Setting },
+    GroupSetting { setting: Setting },
     GroupEmergency { data: u32 },
     GroupSwitch { data: u32 },
 }
 
 // The order of a word written to a register of one word; none for a register that is read only.
 pub(crate) fn word_order(register: WordRegister, word: u16) -> Option<Order>
-    ensures order { result ≡ word_order register word }
-    ensures placed { (n : ℕ) → WordPlaced n register → SomeOrderPlaced n result }
+    ensures { result ≡ word_order register word }
 {
     match register {
         WordRegister::Module(module) => module_word_order(module, word),
@@ -51,8 +45,7 @@ pub(crate) fn word_order(register: WordRegister, word: u16) -> Option<Order>
 }
 
 fn module_word_order(register: ModuleWord, word: u16) -> Option<Order>
-    ensures order { result ≡ module_word_order register word }
-    ensures placed { (n : ℕ) → SomeOrderPlaced n result }
+    ensures { result ≡ module_word_order register word }
 {
     match register {
         ModuleWord::Control => Some(Order::ModuleControl { word }),
@@ -65,64 +58,51 @@ fn module_word_order(register: ModuleWord, word: u16) -> Option<Order>
 }
 
 // The order of a value whose two halves were written; none for a value that is read only.
-pub(crate) fn value_order(register: ValueRegister, upper: u16, lower: u16) -> Option<Order>
-    ensures order { result ≡ value_order register upper lower }
-    ensures placed { (n : ℕ) → ValuePlaced n register → SomeOrderPlaced n result }
+pub(crate) fn value_order(register: ValueRegister, words: Words) -> Option<Order>
+    ensures { result ≡ value_order register words.upper words.lower }
 {
     match register {
         ValueRegister::Module(ModuleValue::VoltageRampSpeed) => Some(Order::RampSpeed {
-            percent: join(upper, lower),
+            percent: f32::from(words),
         }),
         ValueRegister::Module(_) => None,
         ValueRegister::Channel { channel, value } => channel_order(
             channel,
             value,
-            join(upper, lower),
+            f32::from(words),
         ),
-        ValueRegister::Group(value) => Some(group_order(value, upper, lower)),
+        ValueRegister::Group(value) => Some(group_order(value, words)),
     }
 }
 
 fn channel_order(channel: usize, register: ChannelValue, value: f32) -> Option<Order>
-    ensures order { result ≡ channel_order channel register value }
-    ensures placed { (n : ℕ) → channel < n → SomeOrderPlaced n result }
+    ensures { result ≡ channel_order channel register value }
 {
-    match register {
-        ChannelValue::VoltageSet => Some(Order::VoltageSet {
-            channel,
-            volts: value,
-        }),
-        ChannelValue::CurrentSet => Some(Order::CurrentSet {
-            channel,
-            amperes: value,
-        }),
-        ChannelValue::VoltageBounds => Some(Order::VoltageBounds {
-            channel,
-            volts: value,
-        }),
-        ChannelValue::CurrentBounds => Some(Order::CurrentBounds {
-            channel,
-            amperes: value,
-        }),
+    let setting = match register {
+        ChannelValue::VoltageSet => Setting::Voltage(value),
+        ChannelValue::CurrentSet => Setting::Current(value),
+        ChannelValue::VoltageBounds => Setting::VoltageBounds(value),
+        ChannelValue::CurrentBounds => Setting::CurrentBounds(value),
         ChannelValue::VoltageMeasure
         | ChannelValue::CurrentMeasure
         | ChannelValue::VoltageNominal
-        | ChannelValue::CurrentNominal => None,
-    }
+        | ChannelValue::CurrentNominal => return None,
+    };
+    Some(Order::ChannelSetting { channel, setting })
 }
 
-fn group_order(register: GroupValue, upper: u16, lower: u16) -> Order
-    ensures order { result ≡ group_order register upper lower }
-    ensures placed { (n : ℕ) → OrderPlaced n result }
+fn group_order(register: GroupValue, words: Words) -> Order
+    ensures { result ≡ group_order register words.upper words.lower }
 {
-    let value = join(upper, lower);
-    let data = upper as u32 * 65536 + lower as u32;
-    match register {
-        GroupValue::Voltage => Order::GroupVoltage { volts: value },
-        GroupValue::Current => Order::GroupCurrent { amperes: value },
-        GroupValue::VoltageBounds => Order::GroupVoltageBounds { volts: value },
-        GroupValue::CurrentBounds => Order::GroupCurrentBounds { amperes: value },
-        GroupValue::Emergency => Order::GroupEmergency { data },
-        GroupValue::OnOff => Order::GroupSwitch { data },
-    }
+    let value = f32::from(words);
+    let data = u32::from(words);
+    let setting = match register {
+        GroupValue::Voltage => Setting::Voltage(value),
+        GroupValue::Current => Setting::Current(value),
+        GroupValue::VoltageBounds => Setting::VoltageBounds(value),
+        GroupValue::CurrentBounds => Setting::CurrentBounds(value),
+        GroupValue::Emergency => return Order::GroupEmergency { data },
+        GroupValue::OnOff => return Order::GroupSwitch { data },
+    };
+    Order::GroupSetting { setting }
 }

@@ -1,37 +1,15 @@
 // What the module's registers read.
 ghost use Rattle.std.specs.Prelude.{◌≡◌};
 ghost use Rattle.registers.specs.Map.{WordPlaced, ValuePlaced};
-ghost use Rattle.table.specs.Reads.{any_ramping, any_alarmed, temperature_good, all_good, event_active, quiet, still, module_status, placed_channels, module_word, module_bits, group_bits, word_read, bits_read, read_answer};
+ghost use Rattle.table.specs.Reads.{placed, temperature_good, all_good, event_active, quiet, still, module_status, placed_channels, module_word, module_bits, group_bits, word_read, bits_read, read_answer};
 
-use crate::channel::bit;
+use crate::channel::{bit, passes};
 use crate::records::{Channel, Conditions, Groups, Table};
 use registers::{
     GroupValue, ModuleFault, ModuleValue, ModuleWord, Place, ValueRegister, WordRegister, locate,
 };
 use std::num::f32_to_bits_with_nan;
-use values::at_most;
-
-fn any_ramping(channels: &[Channel]) -> bool
-    ensures { result ≡ any_ramping channels.now }
-{
-    for channel in channels {
-        if channel.ramping {
-            return true;
-        }
-    }
-    false
-}
-
-fn any_alarmed(channels: &[Channel]) -> bool
-    ensures { result ≡ any_alarmed channels.now }
-{
-    for channel in channels {
-        if channel.alarmed() {
-            return true;
-        }
-    }
-    false
-}
+use values::{Words, at_most};
 
 // A bit for each of the first `count` channels, 12 at most.
 pub(crate) fn placed_channels(count: usize) -> u16
@@ -70,22 +48,29 @@ impl Groups {
 }
 
 impl Table {
+    // The records of the first `count` channels, 12 at most.
+    pub(crate) fn placed(&self, count: usize) -> &[Channel]
+        ensures { result.now ≡ placed count self.now }
+    {
+        &self.channels[..count.min(12)]
+    }
+
     fn event_active(&self) -> bool
         ensures { result ≡ event_active self.now }
     {
-        self.events & self.mask != 0 || self.channel_events & self.channel_mask != 0
+        passes(self.events, self.mask) || passes(self.channel_events, self.channel_mask)
     }
 
     fn quiet(&self, count: usize) -> bool
         ensures { result ≡ quiet count self.now }
     {
-        !any_alarmed(&self.channels[0..count.min(12)])
+        !self.placed(count).iter().any(|channel| channel.alarmed())
     }
 
     fn still(&self, count: usize) -> bool
         ensures { result ≡ still count self.now }
     {
-        !any_ramping(&self.channels[0..count.min(12)])
+        !self.placed(count).iter().any(|channel| channel.ramping)
     }
 
     // ModuleStatus of a module with `count` channels, worked out from the rest of the table.
@@ -160,8 +145,8 @@ impl Table {
     {
         match locate(offset, count)? {
             Place::Word(register) => Ok(self.word(register, count)),
-            Place::Upper(register) => Ok((self.bits(register) / 65536) as u16),
-            Place::Lower(register) => Ok((self.bits(register) % 65536) as u16),
+            Place::Upper(register) => Ok(Words::from(self.bits(register)).upper),
+            Place::Lower(register) => Ok(Words::from(self.bits(register)).lower),
         }
     }
 }

@@ -4,21 +4,20 @@ ghost use Rattle.table.specs.New.{new_channel, new_table};
 
 use values::Model;
 
-// A voltage in volts and a current in amperes; as maxima, both in per cent of the nominal value.
-#[derive(Clone, Copy)]
-pub struct Amounts {
-    pub voltage: f32,
-    pub current: f32,
+// One for the voltage and one for the current.
+#[derive(Clone, Copy, Debug, Default, PartialEq, Eq)]
+pub struct Both<T> {
+    pub voltage: T,
+    pub current: T,
 }
 
-#[derive(Clone, Copy)]
-pub struct Flags {
-    pub voltage: bool,
-    pub current: bool,
-}
+// In volts and in amperes; as maxima, both in per cent of the nominal value.
+pub type Amounts = Both<f32>;
+
+pub type Flags = Both<bool>;
 
 // What the latest round found of a channel.
-#[derive(Clone, Copy)]
+#[derive(Clone, Copy, Debug, Default, PartialEq, Eq)]
 pub struct Findings {
     // above the limit: isVLIM and isCLIM
     pub over: Flags,
@@ -30,7 +29,7 @@ pub struct Findings {
     pub control: Flags,
 }
 
-#[derive(Clone, Copy)]
+#[derive(Clone, Copy, Debug, PartialEq)]
 pub struct Channel {
     pub findings: Findings,
     // a kill is stored: isTRIP
@@ -53,14 +52,14 @@ pub struct Channel {
 }
 
 // The upper half of a value, and the offset of the lower half that completes it.
-#[derive(Clone, Copy)]
-pub enum Held {
-    Nothing,
-    Upper { awaited: u16, word: u16 },
+#[derive(Clone, Copy, Debug, PartialEq, Eq)]
+pub struct Half {
+    pub awaited: u16,
+    pub word: u16,
 }
 
 // The surroundings of a module, as a round brings them.
-#[derive(Clone, Copy)]
+#[derive(Clone, Copy, Debug, PartialEq)]
 pub struct Conditions {
     // degrees Celsius
     pub temperature: f32,
@@ -71,7 +70,7 @@ pub struct Conditions {
 }
 
 // The last accepted value of each fixed group.
-#[derive(Clone, Copy)]
+#[derive(Clone, Copy, Debug, Default, PartialEq)]
 pub struct Groups {
     pub setpoint: Amounts,
     pub bounds: Amounts,
@@ -79,11 +78,12 @@ pub struct Groups {
     pub on_off: u32,
 }
 
-#[derive(Clone, Copy)]
+#[derive(Clone, Copy, Debug, PartialEq)]
 pub struct Table {
     pub model: Model,
+    // always twelve, in fixed memory; how many are placed is asked from the stage at each call
     pub channels: [Channel; 12],
-    pub held: Held,
+    pub held: Option<Half>,
     pub kill_enable: bool,
     // ModuleEventStatus and ModuleEventMask
     pub events: u16,
@@ -101,21 +101,8 @@ impl Channel {
     pub fn new(model: Model) -> Channel
         ensures { result ≡ new_channel model }
     {
-        let none = Flags {
-            voltage: false,
-            current: false,
-        };
-        let zero = Amounts {
-            voltage: 0.0,
-            current: 0.0,
-        };
         Channel {
-            findings: Findings {
-                over: none,
-                inhibited: false,
-                outside: none,
-                control: none,
-            },
+            findings: Findings::default(),
             kill: false,
             emergency: false,
             ramping: false,
@@ -127,8 +114,8 @@ impl Channel {
                 voltage: 0.0,
                 current: model.nominal_current(),
             },
-            bounds: zero,
-            measured: zero,
+            bounds: Amounts::default(),
+            measured: Amounts::default(),
         }
     }
 }
@@ -137,14 +124,10 @@ impl Table {
     pub fn new(model: Model) -> Table
         ensures { result ≡ new_table model }
     {
-        let zero = Amounts {
-            voltage: 0.0,
-            current: 0.0,
-        };
         Table {
             model,
             channels: [Channel::new(model); 12],
-            held: Held::Nothing,
+            held: None,
             kill_enable: false,
             events: 0,
             mask: 0,
@@ -155,14 +138,9 @@ impl Table {
                 temperature: 0.0,
                 supply_good: true,
                 loop_closed: true,
-                maxima: zero,
+                maxima: Amounts::default(),
             },
-            groups: Groups {
-                setpoint: zero,
-                bounds: zero,
-                emergency: 0,
-                on_off: 0,
-            },
+            groups: Groups::default(),
         }
     }
 }

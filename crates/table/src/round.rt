@@ -10,7 +10,7 @@ use values::{
 };
 
 // The reading of one channel, in volts and amperes, and whether its inhibit line is low.
-#[derive(Clone, Copy)]
+#[derive(Clone, Copy, Debug, PartialEq)]
 pub struct Reading {
     pub voltage: f32,
     pub current: f32,
@@ -18,7 +18,7 @@ pub struct Reading {
 }
 
 // What a round fixes for every channel.
-#[derive(Clone, Copy)]
+#[derive(Clone, Copy, Debug, PartialEq)]
 pub struct Pass {
     pub model: Model,
     pub kill_enable: bool,
@@ -34,7 +34,7 @@ pub struct Pass {
 }
 
 // Which limits a reading is over.
-#[derive(Clone, Copy)]
+#[derive(Clone, Copy, Debug, PartialEq, Eq)]
 pub struct Excess {
     pub voltage_limit: bool,
     pub current_limit: bool,
@@ -92,6 +92,7 @@ fn moved_level(level: u32, goal: u32, ramp_step: u32, blocked: bool) -> u32
     }
 }
 
+// A reading is the channel's and a pass the round's, so the two are not one parameter.
 impl Channel {
     fn excess(&self, reading: &Reading, pass: &Pass) -> Excess
         ensures { result ≡ excess_of pass.now self.now reading.now }
@@ -144,6 +145,7 @@ impl Channel {
         }
     }
 
+    // A reading is plain, two numbers and the line, so its amounts are no record that could be copied whole.
     fn store_reading(&mut self, reading: &Reading)
         ensures { self.new ≡ Round.with_reading self.old reading.now }
     {
@@ -171,18 +173,12 @@ impl Channel {
     fn settle(&mut self)
         ensures { self.new ≡ Round.settled self.old }
     {
-        let none = Flags {
-            voltage: false,
-            current: false,
-        };
         self.findings = Findings {
-            over: none,
-            inhibited: false,
-            outside: none,
             control: Flags {
                 voltage: self.on,
                 current: false,
             },
+            ..Findings::default()
         };
         self.events |= bit(self.on, 0x0080) + bit(self.emergency, 0x0020);
     }
@@ -259,13 +255,11 @@ impl Table {
         ensures { self.new ≡ Round.begun self.old conditions.now }
     {
         self.conditions = Conditions {
-            temperature: conditions.temperature,
-            supply_good: conditions.supply_good,
-            loop_closed: conditions.loop_closed,
             maxima: Amounts {
                 voltage: stored_maximum(conditions.maxima.voltage),
                 current: stored_maximum(conditions.maxima.current),
             },
+            ..*conditions
         };
         self.events |= bit(!conditions.temperature_good(), 0x4000)
             + bit(!conditions.supply_good, 0x2000)

@@ -1,22 +1,21 @@
 // A write: the halves, the order that it completes, and the events collected after it.
-ghost use Rattle.std.specs.Prelude.{◌≡◌, ℕ, ◌≤◌, length, IfOk};
-ghost use Rattle.registers.specs.Map.{Placed};
-ghost use Rattle.table.specs.Orders.{SomeOrderPlaced};
+ghost use Rattle.std.specs.Prelude.{◌≡◌, ◌≤◌, length, IfOk};
+ghost use Rattle.std.specs.List.{list_any};
 ghost use Rattle.table.specs.Changes.{event_passes};
-ghost use Rattle.table.specs.Reads.{any_of};
 ghost use Rattle.table.specs.Carrying.{DrivePlaced};
-ghost use Rattle.table.specs.Writes.{passing, collected, carries, request_at, requested, served, served_answer, written_table, written_answer, RequestPlaced};
+ghost use Rattle.table.specs.Writes.{passing, collected, carries, request_at, requested, served, served_answer, written_table, written_answer};
 
 use crate::carrying::Drive;
 use crate::channel::bit;
 use crate::order::{Order, value_order, word_order};
-use crate::records::{Channel, Held, Table};
+use crate::records::{Channel, Half, Table};
 use registers::{ModuleFault, Place, locate};
+use values::Words;
 
-// What a write asks for: that its upper half is held, or that an order is carried out.
-#[derive(Clone, Copy)]
+// What a write asks for: that an upper half is held, or that an order is carried out.
+#[derive(Clone, Copy, Debug, PartialEq)]
 pub enum Request {
-    Hold,
+    Hold(Half),
     Carry(Order),
 }
 
@@ -26,49 +25,51 @@ fn passing_word(channels: &[Channel]) -> u16
     ensures { result ≡ passing channels.now }
 {
     let mut word: u16 = 0;
-    for k in (0..channels.len()).rev() {
-        word = word * 2 + bit(channels[k].event_passes(), 1);
+    for (k, channel) in channels.iter().enumerate() {
+        word += bit(channel.event_passes(), 1 << k);
     }
     word
 }
 
-// Whether any has an event that passes its mask, without a branch for each.
+// Whether any has an event that passes its mask.
 fn any_passes(channels: &[Channel]) -> bool
-    ensures { result ≡ any_of event_passes channels.now }
+    ensures { result ≡ list_any event_passes channels.now }
 {
-    let mut any = false;
-    for channel in channels {
-        any = any | channel.event_passes();
-    }
-    any
+    channels.iter().any(|channel| channel.event_passes())
 }
 
 // A register without an order is read only.
 fn carry(order: Option<Order>, offset: u16) -> Result<Request, ModuleFault>
-    ensures request { result ≡ carries offset order }
-    ensures placed { (n : ℕ) → SomeOrderPlaced n order → IfOk result (RequestPlaced n) }
+    ensures { result ≡ carries offset order }
 {
-    match order {
-        Some(order) => Ok(Request::Carry(order)),
-        None => Err(ModuleFault::ReadOnly { offset }),
-    }
+    order
+        .map(Request::Carry)
+        .ok_or(ModuleFault::ReadOnly { offset })
 }
 
 // What a word written at a writable place asks for, with the half held.
-fn request_at(held: Held, place: Place, offset: u16, word: u16) -> Result<Request, ModuleFault>
-    ensures request { result ≡ request_at held place offset word }
-    ensures placed { (n : ℕ) → Placed n place → IfOk result (RequestPlaced n) }
+fn request_at(
+    held: Option<Half>,
+    place: Place,
+    offset: u16,
+    word: u16,
+) -> Result<Request, ModuleFault>
+    requires { offset ≤ 0x3FE }
+    ensures { result ≡ request_at held place offset word }
 {
     match (held, place) {
         (_, Place::Word(register)) => carry(word_order(register, word), offset),
-        (_, Place::Upper(_)) => Ok(Request::Hold),
-        (
-            Held::Upper {
-                awaited,
-                word: upper,
-            },
-            Place::Lower(register),
-        ) if awaited == offset => { carry(value_order(register, upper, word), offset) }
+        (_, Place::Upper(_)) => Ok(Request::Hold(Half {
+            awaited: offset + 2,
+            word,
+        })),
+        (Some(half), Place::Lower(register)) if half.awaited == offset => {
+            let words = Words {
+                upper: half.word,
+                lower: word,
+            };
+            carry(value_order(register, words), offset)
+        }
         (_, Place::Lower(_)) => Err(ModuleFault::UpperNotHeld { offset }),
     }
 }
@@ -79,14 +80,12 @@ impl Table {
         ensures { self.new ≡ collected count self.old }
     {
         if any_passes(&self.channels) {
-            self.channel_events |= passing_word(&self.channels[0..count.min(12)]);
+            self.channel_events |= passing_word(self.placed(count));
         }
     }
 
     fn request(&self, offset: u16, word: u16, count: usize) -> Result<Request, ModuleFault>
-        ensures request { result ≡ requested count self.now offset word }
-        ensures placed { IfOk result (RequestPlaced count) }
-        ensures within { IfOk result (RequestPlaced 12) }
+        ensures { result ≡ requested count self.now offset word }
     {
         let place = locate(offset, count)?;
         if !place.writable() {
@@ -96,18 +95,14 @@ impl Table {
     }
 
     fn serve(&mut self, offset: u16, word: u16, count: usize) -> Result<Drive, ModuleFault>
-        ensures state { self.new ≡ served count self.old offset word (requested count self.old offset word) }
+        ensures state { self.new ≡ served count self.old (requested count self.old offset word) }
         ensures answer { result ≡ served_answer count self.old offset (requested count self.old offset word) }
-        ensures placed { IfOk result (DrivePlaced count) }
     {
         let request = self.request(offset, word, count);
-        self.held = Held::Nothing;
+        self.held = None;
         match request? {
-            Request::Hold => {
-                self.held = Held::Upper {
-                    awaited: offset + 2,
-                    word,
-                };
+            Request::Hold(half) => {
+                self.held = Some(half);
                 Ok(Drive::Nothing)
             }
             Request::Carry(order) => self.carry_out(order, offset, count),

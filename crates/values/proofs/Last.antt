@@ -1,5 +1,5 @@
 -- The count of a value between two bounds is the last step that the value reaches.
-use Rattle.std.proofs.Common.{◌≡◌, ℕ, ◌+◌, ◌-◌, ◌*◌, ◌/◌, ◌^◌, ◌<◌, ◌≤◌, min, true, false, T, eqb, ℤ, ap, inl, inr, mod-lt, eq-zero-or-pos, mul-pos, arith, lit<, lit≤, eqb→eq}
+use Rattle.std.proofs.Common.{◌≡◌, ℕ, ◌+◌, ◌-◌, ◌*◌, ◌/◌, ◌^◌, ◌<◌, ◌≤◌, min, true, false, T, eqb, ℤ, ap, mod-lt, eq-zero-or-pos, mul-pos, arith, lit<, lit≤, eqb→eq}
 use native.Mathlib.Nat.{div-add-mod}
 use lib.Ieee.{Float, nan, inf, fin, up, down, le, of_bits}
 use lib.Ieee.Fits.{down_pos, and_l, and_r}
@@ -17,7 +17,7 @@ NotNegative (fin true m e) = ⊥
 NotNegative (fin false m e) = Unit {0}
 
 no_factor : (k d : ℕ) → 0 < d → k * d ≡ 0 → k ≡ 0
-no_factor k d D h = elim (eq-zero-or-pos k) [ inl z ↦ z | inr p ↦ absurd (omega (arith, mul-pos p D)) ]
+no_factor k d D h = grind (arith, eq-zero-or-pos, mul-pos)
 
 minus_zero : (low : Float) (m : ℕ) (e : ℤ) → NotNegative low → T (le low (fin true m e)) → m * up e ≡ 0
 unfolding le

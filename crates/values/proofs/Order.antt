@@ -1,21 +1,14 @@
 -- A greater value is never fewer steps.
-use Rattle.std.proofs.Common.{◌≡◌, ℕ, ◌-◌, ◌*◌, ◌/◌, ◌^◌, ◌<◌, ◌≤◌, min, Bool, true, false, ◌&&◌, ◌||◌, T, eqb, ltb, ◌⊎◌, sym, ap, ◌∙◌, subst, inl, inr, mul-le-mul_right, eq-zero-or-pos, mul-pos, zero-mul, arith, eqb→eq, ltb→lt}
+use Rattle.std.proofs.Common.{◌≡◌, ℕ, ◌-◌, ◌*◌, ◌/◌, ◌^◌, ◌<◌, ◌≤◌, min, true, false, ◌&&◌, ◌||◌, T, eqb, ltb, sym, ap, ◌∙◌, subst, inl, inr, mul-le-mul_right, eq-zero-or-pos, mul-pos, zero-mul, arith, eqb→eq}
 use native.Mathlib.Nat.{zero-div}
 use lib.Ieee.{Float, nan, inf, fin, up, down, le}
-use lib.Ieee.Fits.{down_pos, and_l, and_r}
+use lib.Ieee.Fits.{down_pos, and_r}
 use lib.Ieee.Nearest.{div_mono}
+use Rattle.std.proofs.lemmas.Grind.{common_steps}
 use Rattle.values.specs.Steps.{rounded_down}
 
-either : (a b : Bool) → T (a || b) → T a ⊎ T b
-either true b t = inl tt
-either false b t = inr t
-
 no_more : (a b : ℕ) → T (ltb a b || (eqb a b && true)) → a ≤ b
-no_more a b t =
-    elim (either (ltb a b) (eqb a b && true) t) [
-      | inl less ↦ omega (arith, ltb→lt a b less)
-      | inr same ↦ omega (arith, eqb→eq a b (and_l (eqb a b) true same))
-    ]
+no_more a b t = grind (arith, common_steps)
 
 capped : (p q cap : ℕ) → p ≤ q → min p cap ≤ min q cap
 capped p q cap h = omega arith

@@ -1,8 +1,10 @@
 -- The six models and their nominal values, each the binary32 number nearest to its whole volts or milliamperes.
-use Rattle.std.specs.Prelude.{ℕ, false, cond, Some, None, Option, ◌==◌, from_bits, Float}
+use Rattle.std.specs.Prelude.{◌≡◌, ℕ, false, cond, Some, None, Option, Result, MatchResult, ◌==◌, from_bits, Float, ◌≢◌}
+use Rattle.std.specs.Result.{result_ok}
 use Rattle.std.specs.Float.{binary32}
 use Rattle.std.specs.Float.Ieee.{round}
 use Rattle.values.specs.declared.model.Model.{Model}
+use Rattle.values.specs.declared.model.UnknownModel.{UnknownModel}
 use Rattle.values.specs.declared.model.Model.TheVariants.{V500, V1000, V2000, V3000, V4000, V6000}
 
 abbrev pub nominal_volts : Model → ℕ
@@ -53,3 +55,9 @@ with_volts v =
     (cond (v == 4000) (Some V4000)
     (cond (v == 6000) (Some V6000)
     None)))))
+
+-- what the conversion of so many volts answers: the model that has them, or an error that carries them, and no model has them
+abbrev pub FromVolts : ℕ → Result Model UnknownModel → Type 0
+FromVolts volts r =
+    (result_ok r ≡ with_volts volts)
+    × MatchResult r (λ m. nominal_volts m ≡ volts) (λ e. (e.volts ≡ volts) × ((m : Model) → nominal_volts m ≢ volts))

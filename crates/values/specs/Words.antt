@@ -2,6 +2,7 @@
 use Rattle.std.specs.Prelude.{◌≡◌, ℕ, ◌+◌, ◌*◌, ◌/◌, ◌%◌, ◌^◌, ◌<◌, cond, T, from_bits, to_bits, Float}
 use Rattle.std.specs.Float.{binary32}
 use Rattle.std.specs.Float.Ieee.{nan_bits, fits}
+use Rattle.values.specs.declared.words.Words.{Words}
 
 abbrev pub pattern : ℕ → ℕ → ℕ
 pattern upper lower = upper * 65536 + lower
@@ -14,6 +15,14 @@ upper_word x = to_bits binary32 x / 65536
 
 abbrev pub lower_word : Float → ℕ
 lower_word x = to_bits binary32 x % 65536
+
+-- the words of 32 bits, and of a value
+
+abbrev pub words_of : ℕ → Words
+words_of bits = record { upper = bits / 65536; lower = bits % 65536 }
+
+abbrev pub words_of_value : Float → Words
+words_of_value x = record { upper = upper_word x; lower = lower_word x }
 
 -- two words joined and split again are the same two, and those of a NaN are 7FC0 and 0000
 abbrev pub SplitJoined : ℕ → ℕ → Type 0

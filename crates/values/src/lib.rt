@@ -5,10 +5,10 @@ pub mod ranges;
 pub mod steps;
 pub mod words;
 
-pub use model::Model;
+pub use model::{Model, UnknownModel};
 pub use ranges::{
     at_most, current_admitted, limit, out_of_bounds, speed_admitted, stored_maximum,
     voltage_admitted,
 };
 pub use steps::{limit_steps, ramp_step, set_steps};
-pub use words::{join, lower_word, upper_word, words_return};
+pub use words::{Words, words_return};

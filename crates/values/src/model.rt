@@ -1,8 +1,11 @@
-ghost use Rattle.std.specs.Prelude.{◌≡◌, MatchOption, ◌≢◌};
-ghost use Rattle.values.specs.Model.{nominal_volts, nominal_milliamperes, nominal_voltage, nominal_current, with_volts, nearest};
+ghost use Rattle.std.specs.Prelude.{◌≡◌};
+ghost use Rattle.values.specs.Model.{nominal_volts, nominal_milliamperes, nominal_voltage, nominal_current, FromVolts, nearest};
+
+use std::error::Error;
+use std::fmt;
 
 // A model is named after its nominal voltage.
-#[derive(Clone, Copy, PartialEq, Eq, Debug)]
+#[derive(Clone, Copy, PartialEq, Eq, Hash, Debug)]
 pub enum Model {
     V500,
     V1000,
@@ -12,23 +15,40 @@ pub enum Model {
     V6000,
 }
 
-impl Model {
-    // The model of that nominal voltage, if there is one.
-    pub fn with_volts(volts: u32) -> Option<Model>
-        ensures value { result ≡ with_volts volts }
-        ensures only { MatchOption result ((m : Model) → nominal_volts m ≢ volts) (λ m. nominal_volts m ≡ volts) }
-    {
+// Volts that no model is named after.
+#[derive(Clone, Copy, PartialEq, Eq, Hash, Debug)]
+pub struct UnknownModel {
+    pub volts: u32,
+}
+
+impl TryFrom<u32> for Model {
+    type Error = UnknownModel;
+
+    ghost try_from_gives = { FromVolts };
+
+    fn try_from(volts: u32) -> Result<Model, UnknownModel> {
         match volts {
-            500 => Some(Model::V500),
-            1000 => Some(Model::V1000),
-            2000 => Some(Model::V2000),
-            3000 => Some(Model::V3000),
-            4000 => Some(Model::V4000),
-            6000 => Some(Model::V6000),
-            _ => None,
+            500 => Ok(Model::V500),
+            1000 => Ok(Model::V1000),
+            2000 => Ok(Model::V2000),
+            3000 => Ok(Model::V3000),
+            4000 => Ok(Model::V4000),
+            6000 => Ok(Model::V6000),
+            _ => Err(UnknownModel { volts }),
         }
     }
+}
 
+impl fmt::Display for UnknownModel {
+    fn fmt<W: fmt::Write>(&self, f: &mut fmt::Formatter<W>) -> fmt::Result {
+        write!(f, "no model of {} V", self.volts)
+    }
+}
+
+impl Error for UnknownModel {}
+
+// Voltage and current have each a table and a unit of their own: one function of both would answer a pair that no caller wants.
+impl Model {
     pub fn volts(self) -> u32
         ensures { result ≡ nominal_volts self }
     {

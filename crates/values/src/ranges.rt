@@ -17,6 +17,8 @@ fn within(low: f32, value: f32, high: f32) -> bool
     at_most(low, value) && at_most(value, high)
 }
 
+// The two ranges differ in their top and unit, and each is one call.
+
 pub fn voltage_admitted(volts: f32, model: Model) -> bool
     ensures { result ≡ Ranges.voltage_admitted model volts }
 {
@@ -37,6 +39,7 @@ pub fn speed_admitted(percent: f32) -> bool
 }
 
 // A maximum that is not within 0 to 100 per cent is stored as 0.
+#[tactic(auto, using(crate::proofs::Limits::limit_steps_of_stored))]
 pub fn stored_maximum(percent: f32) -> f32
     ensures value { result ≡ Ranges.stored_maximum percent }
     ensures top { limit_steps result ≤ 100000 }

@@ -16,6 +16,8 @@ fn rounded_down(value: f32, numerator: u32, denominator: u32) -> u32
     (whole / (denominator as u64)).min(u32::MAX as u64) as u32
 }
 
+// The three counts differ in their constant and unit, and each is one call.
+
 // 100,000 steps are the nominal voltage.
 pub fn set_steps(volts: f32, model: Model) -> u32
     ensures value { result ≡ set_steps model volts }

@@ -1,8 +1,7 @@
-use Rattle.std.proofs.Common.{◌*◌}
-use Rattle.module.specs.State.{state_of}
+use Rattle.std.proofs.Common.{◌≡◌, ◌%◌, ◌≤◌}
 use Rattle.register_image.specs.Image.{image_word}
 use Rattle.register_image.proofs.Bytes.{Filled}
 use Rattle.register_image.proofs.writer.write_image.Given as goal
 
-abbrev pub invariant-loop-place : goal.invariant-loop-place
-invariant-loop-place g l = Filled (image_word (state_of g.S.Stage.levels l.«module»)) (2 * l.place) l.out
+abbrev pub invariant-loop-offset : goal.invariant-loop-offset
+invariant-loop-offset g l = (l.offset % 2 ≡ 0) × (l.offset ≤ 1024) × Filled (image_word l.«module») l.offset l.out

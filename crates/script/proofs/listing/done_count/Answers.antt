@@ -1,27 +1,13 @@
-use Rattle.std.proofs.Common.{true, false, arith}
-use Rattle.script.proofs.Listed.{count_more, count_all}
+use Rattle.std.proofs.Common.{◌∙◌, rules, tests}
+use Rattle.std.proofs.lemmas.Iterator.{YieldsList-from_slice}
+use Rattle.std.proofs.lemmas.Iterator.Consumers.{YieldsList-from_filter, count_from_yields_List}
+use Rattle.std.proofs.lemmas.List.Sums.{length-filter}
+use Rattle.runs.specs.Calls.{said_by}
+use Rattle.script.specs.declared.listing.Entry.{Entry}
+use Rattle.script.specs.Listing.{done_by}
 use Rattle.script.proofs.listing.done_count.Goals as goal
-use Rattle.script.proofs.listing.done_count.Goals.{then-is_done, else-is_done}
 
-pub loop-reply-preserved : goal.loop-reply-preserved
-loop-reply-preserved c =
-    let rs = c.args.replies.now in
-    let i = c.loop-reply.reply-index in
-    let x = c.reply-item.result in
-    elim c.if-is_done.branch [
-      | then-is_done w ↦ (
-        omega (arith, w.done-is, c.loop-reply.invariant.0, count_more rs i x true c.loop-reply-test.true c.reply-item.is w.if-is_done.ensures),
-        omega (arith, w.done-is, c.loop-reply.invariant.1),
-      )
-      | else-is_done w ↦ (
-        omega (arith, w.done-is, c.loop-reply.invariant.0, count_more rs i x false c.loop-reply-test.true c.reply-item.is w.if-is_done.ensures),
-        omega (arith, w.done-is, c.loop-reply.invariant.1),
-      )
-    ]
-
-pub returns : goal.returns
-returns c =
-    record {
-      count = omega (arith, c.loop-reply.invariant.0, count_all c.args.replies.now c.loop-reply.reply-index c.loop-reply-test.false);
-      bound = omega (arith, c.loop-reply.invariant.1, c.loop-reply.auto.reply-index-end);
-    }
+pub returns-clause-count : goal.returns-clause-count
+returns-clause-count c =
+    count_from_yields_List c.filter.result _ c.count.ensures.ran (YieldsList-from_filter _ (λ (e : Entry). done_by (said_by e.reply.answer)) (YieldsList-from_slice c.args.entries.now cc) c.filter.ensures.closure (λ x b q k. search (rules, tests)))
+    ∙ length-filter _ c.args.entries.now

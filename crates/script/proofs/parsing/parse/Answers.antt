@@ -1,61 +1,48 @@
-use Rattle.std.proofs.Common.{◌≡◌, ℕ, ◌+◌, [], Some, None, Ok, Err, sym, ap, ◌∙◌, arith, rules}
-use Rattle.std.proofs.lemmas.Str.Pattern.{split_parts}
-use Rattle.script.specs.declared.reader.Reader.{Reader}
+use Rattle.std.proofs.Common.{◌≡◌, ℕ, ◌+◌, List, length, drop, Ok, Err, sym, ap, ◌∙◌, subst, arith, rules}
+use Rattle.std.proofs.lemmas.Iterator.Consumers.{YieldsList-at, YieldsList-from_enumerate, YieldsList-turn, YieldsList-end, count_from_yields_List}
+use Rattle.std.proofs.lemmas.Iterator.Splits.{YieldsList-from_lines}
+use Rattle.std.proofs.lemmas.List.{drop_all, length_push}
+use Rattle.std.proofs.lemmas.List.FromFn.{length-enumerate_from}
 use Rattle.script.specs.Faults.{at_line}
 use Rattle.script.specs.Lines.{lines_of, Parses}
-use Rattle.script.specs.Progress.{progress_of, progress, nothing, ended}
-use Rattle.script.proofs.Parsed.{ends, line_parsed, last_parsed, none_parsed, no_bytes, shorter, parses_numbered}
+use Rattle.script.proofs.Parsed.{line_parsed, ends}
 use Rattle.script.proofs.parsing.parse.Goals as goal
-use Rattle.script.proofs.parsing.parse.Goals.{then-not-is_empty+in_ok-reader-2, else-not-is_empty}
 
-pub loop-text-preserved : goal.loop-text-preserved
-loop-text-preserved c =
-    let rest = c.loop-text.rest.now in
-    let line = c.in-Some.text.now in
-    let after = c.in-Some.after.now in
-    let parts = split_parts 10 rest (Some (c.in-Some.text, c.in-Some.after)) c.in-Some.ensures.cases (omega arith) in (
-      search rules,
-      omega (arith, c.loop-text.invariant.1, shorter rest line after parts.0),
-      λ r k. c.loop-text.invariant.2 r (line_parsed rest line after parts c.loop-text.line (progress_of c.loop-text.reader) c.unreturned.result.now c.unreturned.ensures (Ok c.in_ok-reader.reader) c.in_ok-reader.ensures r k),
+pub loop-index-init : goal.loop-index-init
+loop-index-init c = (
+  λ r k. subst (λ (p : _). Parses 1 p (lines_of c.args.text.now) r) c.new-reader.ensures k,
+  YieldsList-at c.into_iter-index-iterator.ensures.into_iter_gives
+      (YieldsList-from_enumerate (YieldsList-at c.enumerate-index-items.ensures.source (YieldsList-from_lines c.args.text.now c.lines.ensures.rest)) c.enumerate-index-items.ensures.count),
+)
+
+pub returns-in_err-reader-clause-parsed : goal.returns-in_err-reader-clause-parsed
+returns-in_err-reader-clause-parsed c =
+    let fault = c.in_err-reader.field-0.0 in
+    let turn = YieldsList-turn c.loop-index.invariant.1 c.loop-index.yielded _ c.loop-index.yielded_by _ _ (c.in-Some.index, c.in-Some.line) c.in-Some.is c.next.ensures.steps in
+    let e : c.from_residual.result ≡ Err fault = search rules in
+    c.loop-index.invariant.0 c.from_residual.result
+    (line_parsed (lines_of c.args.text.now) (length c.loop-index.yielded) c.in-Some.index c.in-Some.line.now turn c.loop-index.reader (Err fault) c.in_err-reader.ensures c.from_residual.result e)
+
+pub loop-index-preserved : goal.loop-index-preserved
+loop-index-preserved c =
+    let ls = lines_of c.args.text.now in
+    let x = c.in_ok-reader.reader in
+    let turn = YieldsList-turn c.loop-index.invariant.1 c.loop-index.yielded _ c.loop-index.yielded_by _ _ (c.in-Some.index, c.in-Some.line) c.in-Some.is c.next.ensures.steps in (
+      λ r more.
+          c.loop-index.invariant.0 r
+          (line_parsed ls (length c.loop-index.yielded) c.in-Some.index c.in-Some.line.now turn c.loop-index.reader (Ok x) c.in_ok-reader.ensures r
+          (subst (λ (n : ℕ). Parses (n + 1) x (drop n ls) r) (length_push c.loop-index.yielded (c.in-Some.index, c.in-Some.line)) more)),
+      c.loop-index.invariant.1,
     )
 
-pub returns-in_err-reader : goal.returns-in_err-reader
-returns-in_err-reader c =
-    let rest = c.loop-text.rest.now in
-    let fault = c.in_err-reader.field-0.0 in
-    let parts = split_parts 10 rest (Some (c.in-Some.text, c.in-Some.after)) c.in-Some.ensures.cases (omega arith) in
-    let e : c.from_residual.result ≡ Err fault = search rules in
-    let parsed = c.loop-text.invariant.2 c.from_residual.result (line_parsed rest c.in-Some.text.now c.in-Some.after.now parts c.loop-text.line (progress_of c.loop-text.reader) c.unreturned.result.now c.unreturned.ensures (Err fault) c.in_err-reader.ensures c.from_residual.result e) in
-    record { lined = parses_numbered 1 _ _ c.from_residual.result (omega arith) parsed; parsed = parsed }
-
-pub returns-in_err-reader-2 : goal.returns-in_err-reader-2
-returns-in_err-reader-2 c =
-    let rest = c.loop-text.rest.now in
-    let r = c.from_residual-in_err-reader-2.result in
-    let fault = c.in_err-reader-2.field-0.0 in
-    let none = split_parts 10 rest None c.in_default.ensures.cases (omega arith) in
-    let e : r ≡ Err fault = search rules in
-    let parsed = c.loop-text.invariant.2 r (last_parsed rest none c.loop-text.line (progress_of c.loop-text.reader) r (c.if-not-is_empty.ensures ∙ sym (no_bytes rest)) (Err fault) c.in_err-reader-2.ensures e) in
-    record { lined = parses_numbered 1 _ _ r (omega arith) parsed; parsed = parsed }
-
-pub returns : goal.returns
-returns c =
-    let rest = c.loop-text.rest.now in
+pub returns-clause-parsed : goal.returns-clause-parsed
+returns-clause-parsed c =
+    let ls = lines_of c.args.text.now in
+    let k = length c.loop-index.yielded in
+    let reader = c.loop-index.reader in
     let r = c.at_line.result in
-    let none = split_parts 10 rest None c.in_default.ensures.cases (omega arith) in
-    let parsed : Parses 1 (progress None [] nothing) (lines_of c.args.text.now) r = elim c.if-not-is_empty.branch [
-      | then-not-is_empty+in_ok-reader-2 w ↦
-          let last = w.in_ok-reader-2.reader in
-          c.loop-text.invariant.2 r
-          (last_parsed rest none c.loop-text.line (progress_of c.loop-text.reader) r (w.if-not-is_empty.ensures ∙ sym (no_bytes rest)) (Ok last) w.in_ok-reader-2.ensures
-          (ends (c.loop-text.line + 1) (progress_of last) c.finish.result r
-          (c.at_line.ensures ∙ ap (λ (n : ℕ). at_line n c.finish.result) w.line-is)
-          (c.finish.ensures ∙ ap (λ (q : Reader). ended (progress_of q)) w.reader-is)))
-      | else-not-is_empty w ↦
-          c.loop-text.invariant.2 r
-          (none_parsed rest none c.loop-text.line (progress_of c.loop-text.reader) r (w.if-not-is_empty.ensures ∙ sym (no_bytes rest))
-          (ends c.loop-text.line (progress_of c.loop-text.reader) c.finish.result r
-          (c.at_line.ensures ∙ ap (λ (n : ℕ). at_line n c.finish.result) w.line-is)
-          (c.finish.ensures ∙ ap (λ (q : Reader). ended (progress_of q)) w.reader-is)))
-    ] in
-    record { lined = parses_numbered 1 _ _ r (omega arith) parsed; parsed = parsed }
+    let end = YieldsList-end c.loop-index.invariant.1 c.loop-index.yielded _ c.loop-index.yielded_by _ _ c.in-None.is c.next.ensures.steps in
+    let all : k ≡ length ls = end.1 ∙ length-enumerate_from 0 ls in
+    let counted : c.count.result ≡ length ls = count_from_yields_List c.lines-2.result _ c.count.ensures.ran (YieldsList-from_lines c.args.text.now c.lines-2.ensures.rest) in
+    let ended = ends (k + 1) reader c.finish.result r (c.at_line.ensures ∙ ap (λ (n : ℕ). at_line (n + 1) c.finish.result) (counted ∙ sym all)) c.finish.ensures in
+    c.loop-index.invariant.0 r (subst (λ (left : List (List ℕ)). Parses (k + 1) reader left r) (sym (drop_all k ls (omega (arith, all)))) ended)

@@ -10,10 +10,10 @@ returns-then-drops-channel-ne0 c =
       stays = λ _. keeps_top_below c.args.common c.args.drops.now c.args.channel c.args.level l c.if-channel-drops.true c.if-drops-channel-ne0.true;
     }
 
-pub returns-then-k-channel : goal.returns-then-k-channel
-returns-then-k-channel c =
+pub returns-then-other-channel : goal.returns-then-other-channel
+returns-then-other-channel c =
     let l = c.if-level-common.false in
     record {
       below = λ _. l;
-      stays = λ _. keeps_top_other c.args.common c.args.drops.now c.args.channel c.args.level l _ (omega arith) c.if-k-channel.true c.if-drops-k-eq0.true;
+      stays = λ _. keeps_top_other c.args.common c.args.drops.now c.args.channel c.args.level l _ (omega arith) c.if-other-channel.true c.if-drops-other-eq0.true;
     }

@@ -1,9 +1,8 @@
+use Rattle.std.proofs.Common.{rules, tests}
+use Rattle.std.proofs.lemmas.Iterator.{YieldsList-from_slice}
+use Rattle.std.proofs.lemmas.Iterator.Search.{any_from_yields_List}
 use Rattle.table.specs.Changes.{event_passes}
-use Rattle.table.proofs.Any.{any_so_far, any_all}
 use Rattle.table.proofs.writing.any_passes.Goals as goal
 
-pub loop-channel-preserved : goal.loop-channel-preserved
-loop-channel-preserved c = any_so_far event_passes c.args.channels.now c.loop-channel.channel-index c.loop-channel.any c.event_passes-any.result c.loop-channel.invariant c.loop-channel-test.true c.event_passes-any.ensures
-
 pub returns : goal.returns
-returns c = any_all event_passes c.args.channels.now c.loop-channel.channel-index c.loop-channel.any c.loop-channel.invariant c.loop-channel-test.false
+returns c = any_from_yields_List event_passes _ _ _ c.any.ensures.ran (YieldsList-from_slice c.args.channels.now cc) (λ x b q k. search (rules, tests))

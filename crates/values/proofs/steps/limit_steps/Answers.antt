@@ -1,7 +1,5 @@
 use Rattle.values.proofs.Last.{limit_last}
 use Rattle.values.proofs.steps.limit_steps.Goals as goal
 
-pub returns : goal.returns
-returns c =
-    let e = c.rounded_down.ensures in
-    record { value = e; last = limit_last c.args.percent c.rounded_down.result e }
+pub returns-clause-last : goal.returns-clause-last
+returns-clause-last c = limit_last _ _ c.rounded_down.ensures

@@ -1,7 +1,5 @@
 use Rattle.values.proofs.Last.{ramp_last}
 use Rattle.values.proofs.steps.ramp_step.Goals as goal
 
-pub returns : goal.returns
-returns c =
-    let e = c.rounded_down.ensures in
-    record { value = e; last = ramp_last c.args.percent c.rounded_down.result e }
+pub returns-clause-last : goal.returns-clause-last
+returns-clause-last c = ramp_last _ _ c.rounded_down.ensures
