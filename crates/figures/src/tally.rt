@@ -4,7 +4,7 @@ ghost use Rattle.figures.specs.Tallies.{counted};
 
 use std::fmt;
 
-#[derive(Clone, Copy, Default)]
+#[derive(Clone, Copy, Default, PartialEq, Eq, Debug)]
 pub struct Tally {
     right: u64,
     wrong: u64,

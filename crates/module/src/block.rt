@@ -30,11 +30,9 @@ pub struct BlockFault {
 impl From<(usize, ModuleFault)> for BlockFault {
     ghost from_gives = { λ f r. r ≡ block_fault f.0 f.1 };
 
-    fn from(f: (usize, ModuleFault)) -> BlockFault {
-        BlockFault {
-            index: f.0,
-            fault: f.1,
-        }
+    fn from(refused: (usize, ModuleFault)) -> BlockFault {
+        let (index, fault) = refused;
+        BlockFault { index, fault }
     }
 }
 

@@ -5,6 +5,8 @@ use Rattle.table.specs.declared.records.Conditions.{Conditions}
 use Rattle.table.specs.declared.round.Reading.{Reading}
 use Rattle.module.specs.declared.block.Access.{Access}
 use Rattle.module.specs.declared.block.BlockFault.{BlockFault}
+use Rattle.module.specs.declared.block.Kind.{Kind}
+use Rattle.module.specs.declared.block.Kind.TheVariants as kind
 use Rattle.module.specs.declared.levels.Levels.{Levels}
 use Rattle.module.specs.State.{State, word_answer, write_state, write_answer}
 use Rattle.module.specs.Rounds.{round_state, round_answer}
@@ -40,6 +42,15 @@ asked (call.Read o) = reads o
 asked (call.Write o w) = writes o w
 asked (call.Block v) = blocks (vec_items v)
 asked (call.Round x v) = rounds x (vec_items v)
+
+-- an access alone is a read or a write
+
+abbrev pub asked_as : Kind → Access → Asked
+asked_as kind.Read a = reads a.offset
+asked_as kind.Write a = writes a.offset a.word
+
+abbrev pub asked_by : Access → Asked
+asked_by a = asked_as a.kind a
 
 abbrev pub said_by : Answer → Said
 said_by (answer.Read r) = word r

@@ -1,5 +1,5 @@
 // A call as data, with all that it brings, and what it is answered.
-use module::{Access, BlockFault, Levels, Module};
+use module::{Access, BlockFault, Kind, Levels, Module};
 use registers::ModuleFault;
 use stage::Stage;
 use table::{Conditions, Reading};
@@ -20,6 +20,22 @@ pub enum Call {
         conditions: Conditions,
         readings: Vec<Reading>,
     },
+}
+
+// A read or a write alone.
+impl From<Access> for Call {
+    ghost use Rattle.std.specs.Prelude.{◌≡◌};
+    ghost use Rattle.runs.specs.Calls.{asked, asked_by};
+
+    ghost from_gives = { λ access call. asked call ≡ asked_by access };
+
+    fn from(access: Access) -> Call {
+        let Access { kind, offset, word } = access;
+        match kind {
+            Kind::Read => Call::Read { offset },
+            Kind::Write => Call::Write { offset, word },
+        }
+    }
 }
 
 #[derive(Debug, Drop)]

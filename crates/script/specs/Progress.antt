@@ -4,9 +4,7 @@ use Rattle.std.specs.Borrow.{Bor}
 use Rattle.table.specs.declared.records.Conditions.{Conditions}
 use Rattle.table.specs.declared.round.Reading.{Reading}
 use Rattle.module.specs.declared.block.Access.{Access}
-use Rattle.module.specs.declared.block.Kind.{Kind}
-use Rattle.module.specs.declared.block.Kind.TheVariants.{Read, Write}
-use Rattle.runs.specs.Calls.{Asked, asked, reads, writes, blocks, rounds}
+use Rattle.runs.specs.Calls.{Asked, asked, asked_by, blocks, rounds}
 use Rattle.script.specs.Commands.{access_line, reading_line, command_line}
 use Rattle.script.specs.declared.command.Command.{Command}
 use Rattle.script.specs.declared.command.Command.TheVariants as command
@@ -40,13 +38,6 @@ progress s cs o = record { setup = s; calls = cs; opened = o }
 abbrev pub Reads : Result Progress Wrong → Result Progress Wrong → Type 0
 Reads (Ok q) p = p ≡ Ok q
 Reads (Err w) p = (w ≢ NoMemory) → p ≡ Err w
-
-abbrev pub asked_as : Kind → Access → Asked
-asked_as Read a = reads a.offset
-asked_as Write a = writes a.offset a.word
-
-abbrev pub asked_by : Access → Asked
-asked_by a = asked_as a.kind a
 
 abbrev pub called : Progress → Asked → Progress
 called p a = progress p.setup (p.calls ++ a ∷ []) nothing

@@ -142,6 +142,7 @@ fn read_access(words: &[&str]) -> Result<Access, Wrong>
     })
 }
 
+// A write has one word more, with a fault of its own, so it is no read with a parameter.
 fn write_access(words: &[&str]) -> Result<Access, Wrong>
     ensures { result ≡ write_line words.now }
 {

@@ -56,10 +56,10 @@ pub struct ScriptFault {
 }
 
 // What is wrong, with the line that it is wrong in.
-pub(crate) fn at_line<T>(line: usize, res: Result<T, Wrong>) -> Result<T, ScriptFault>
-    ensures { result ≡ at_line line res }
+pub(crate) fn at_line<T>(line: usize, read: Result<T, Wrong>) -> Result<T, ScriptFault>
+    ensures { result ≡ at_line line read }
 {
-    res.map_err(|wrong| ScriptFault { line, wrong })
+    read.map_err(|wrong| ScriptFault { line, wrong })
 }
 
 impl<T: Drop> From<AllocFailed<T>> for Wrong {

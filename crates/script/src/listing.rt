@@ -82,6 +82,7 @@ fn replies_of(heap: Global, setup: Setup, calls: Vec<Call>) -> Result<Vec<Reply>
     }
 }
 
+// `run` takes the calls, so their echoes are listed before it and paired with the replies after it.
 fn entries_of(
     heap: Global,
     echoes: Vec<Echo>,

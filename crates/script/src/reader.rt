@@ -5,7 +5,7 @@ ghost use Rattle.runs.specs.Calls.{asked};
 
 use crate::command::{Command, Setup, block_access, command_of, round_reading};
 use crate::fault::Wrong;
-use module::{Access, Kind};
+use module::Access;
 use runs::Call;
 use std::alloc::Global;
 use std::marker::Model;
@@ -35,7 +35,7 @@ impl<T: Drop> Gathering<T> {
         }
     }
 
-    // One more of the lines.
+    // The next line.
     fn with(mut self, item: T) -> Result<Gathering<T>, Wrong>
         ensures { MatchResult result (λ g. (g.left ≡ self.left - 1) × (g.items.items ≡ self.items.items ++ item ∷ [])) (λ w. w ≡ out_of_memory) }
     {
@@ -71,7 +71,7 @@ impl Model for Reader {
 }
 
 impl Reader {
-    ghost use Rattle.script.specs.Progress.{progress, nothing, Reads, asked_by, called, opening, opened_by, begun, taken, ended, whole_by};
+    ghost use Rattle.script.specs.Progress.{progress, nothing, Reads, called, opening, opened_by, begun, taken, ended, whole_by};
 
     pub(crate) fn new(heap: Global) -> Reader
         ensures { result ≡ progress None [] nothing }
@@ -80,17 +80,6 @@ impl Reader {
             setup: None,
             calls: Vec::new(heap),
             pending: Pending::Nothing,
-        }
-    }
-
-    // No `From`: both types are those of other crates.
-    fn call_of(access: Access) -> Call
-        ensures { asked result ≡ asked_by access }
-    {
-        let Access { kind, offset, word } = access;
-        match kind {
-            Kind::Read => Call::Read { offset },
-            Kind::Write => Call::Write { offset, word },
         }
     }
 
@@ -135,7 +124,7 @@ impl Reader {
             }
             (None, _) => Err(Wrong::NoModule),
             (Some(_), Command::Module(_)) => Err(Wrong::SecondModule),
-            (Some(_), Command::Access(access)) => self.with_call(Self::call_of(access)),
+            (Some(_), Command::Access(access)) => self.with_call(Call::from(access)),
             (Some(_), Command::Block { accesses }) => {
                 self.with_pending(Pending::Block(Gathering::new(heap, accesses)))
             }

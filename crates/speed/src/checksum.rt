@@ -2,7 +2,7 @@
 use registers::ModuleFault;
 use std::fmt;
 
-#[derive(Clone, Copy, Default)]
+#[derive(Clone, Copy, Default, PartialEq, Eq, Debug)]
 pub struct Checksum {
     sum: u64,
     sums: u64,
@@ -16,10 +16,7 @@ impl Checksum {
 
     // A refusal counts as its number above every word.
     pub(crate) fn add_answer(&mut self, answer: Result<u32, ModuleFault>) {
-        match answer {
-            Ok(number) => self.add(number),
-            Err(fault) => self.add(fault.number() + 0x10000),
-        }
+        self.add(answer.unwrap_or_else(|fault| fault.number() + 0x10000));
     }
 }
 

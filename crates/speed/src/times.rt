@@ -11,7 +11,7 @@ pub struct Times {
     pub block: f64,
 }
 
-// Times what answers how many calls it made.
+// The time of each of the calls that `run` makes; it answers how many they were.
 pub(crate) fn time_calls<F: FnOnce() -> usize>(rt: &HostRuntime, run: F) -> io::Result<f64>
     requires { F.IsAlwaysCallable run }
 {

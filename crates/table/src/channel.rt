@@ -28,27 +28,27 @@ impl Channel {
     pub fn alarmed(&self) -> bool
         ensures { result ≡ alarmed self.now }
     {
-        let f = &self.findings;
-        f.over.voltage
-            || f.over.current
+        let found = &self.findings;
+        found.over.voltage
+            || found.over.current
             || self.kill
-            || f.inhibited
-            || f.outside.voltage
-            || f.outside.current
+            || found.inhibited
+            || found.outside.voltage
+            || found.outside.current
     }
 
     pub fn status(&self) -> u16
         ensures { result ≡ channel_status self.now }
     {
-        let f = self.findings;
-        let upper = bit(f.over.voltage, 0x8000)
-            + bit(f.over.current, 0x4000)
+        let found = self.findings;
+        let upper = bit(found.over.voltage, 0x8000)
+            + bit(found.over.current, 0x4000)
             + bit(self.kill, 0x2000)
-            + bit(f.inhibited, 0x1000)
-            + bit(f.outside.voltage, 0x0800)
-            + bit(f.outside.current, 0x0400);
-        let lower = bit(f.control.voltage, 0x0080)
-            + bit(f.control.current, 0x0040)
+            + bit(found.inhibited, 0x1000)
+            + bit(found.outside.voltage, 0x0800)
+            + bit(found.outside.current, 0x0400);
+        let lower = bit(found.control.voltage, 0x0080)
+            + bit(found.control.current, 0x0040)
             + bit(self.emergency, 0x0020)
             + bit(self.ramping, 0x0010)
             + bit(self.on, 0x0008)

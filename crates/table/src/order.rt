@@ -91,6 +91,7 @@ fn channel_order(channel: usize, register: ChannelValue, value: f32) -> Option<O
     Some(Order::ChannelSetting { channel, setting })
 }
 
+// The values of a channel and of the groups are two enums of the map, so each has its rows.
 fn group_order(register: GroupValue, words: Words) -> Order
     ensures { result ≡ group_order register words.upper words.lower }
 {

@@ -47,6 +47,7 @@ impl Groups {
     }
 }
 
+// The stage alone knows how many channels are placed, so every call brings the count.
 impl Table {
     // The records of the first `count` channels, 12 at most.
     pub(crate) fn placed(&self, count: usize) -> &[Channel]

@@ -92,8 +92,8 @@ fn moved_level(level: u32, goal: u32, ramp_step: u32, blocked: bool) -> u32
     }
 }
 
-// A reading is the channel's and a pass the round's, so the two are not one parameter.
 impl Channel {
+    // In all of these a reading is the channel's own and a pass the round's, so the two are not one parameter.
     fn excess(&self, reading: &Reading, pass: &Pass) -> Excess
         ensures { result ≡ excess_of pass.now self.now reading.now }
     {

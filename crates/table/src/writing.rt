@@ -84,6 +84,7 @@ impl Table {
         }
     }
 
+    // Offset, word and count come from the caller one by one, and each is used alone.
     fn request(&self, offset: u16, word: u16, count: usize) -> Result<Request, ModuleFault>
         ensures { result ≡ requested count self.now offset word }
     {
