@@ -59,6 +59,7 @@ fn echoes_of(heap: Global, calls: &[Call]) -> Result<Vec<Echo>, AllocError>
     calls.iter().map(Echo::from).collect(heap)
 }
 
+// The answers of a run are all that this and the next two promise, each over other arguments.
 fn replies_over<S: Stage + Drop>(
     heap: Global,
     stage: S,
