@@ -41,7 +41,7 @@ fn reply<S: Stage>(module: &mut Module<S>, call: Call) -> Reply
     }
 }
 
-// Want of memory is refused before the first call.
+// Want of memory is refused before the first call. Those who pass the answers on say the same over their own arguments.
 pub fn run<S: Stage + Drop>(
     heap: Global,
     stage: S,

@@ -59,7 +59,7 @@ fn echoes_of(heap: Global, calls: &[Call]) -> Result<Vec<Echo>, AllocError>
     calls.iter().map(Echo::from).collect(heap)
 }
 
-// The answers of a run are all that this and the next two promise, each over other arguments.
+// The answers of a run stand in the contracts of `run`, this, `replies_of` and `perform`, each over its own arguments.
 fn replies_over<S: Stage + Drop>(
     heap: Global,
     stage: S,

@@ -8,7 +8,7 @@ use std::fmt;
 use std::fmt::Formatter;
 
 // An access of a block, as the block left it.
-#[derive(Clone, Copy)]
+#[derive(Clone, Copy, PartialEq, Eq, Debug)]
 struct Record(Access);
 
 impl fmt::Display for Record {
@@ -21,7 +21,7 @@ impl fmt::Display for Record {
     }
 }
 
-#[derive(Clone, Copy)]
+#[derive(Clone, Copy, Debug)]
 struct Answered<'a>(&'a Answer);
 
 impl fmt::Display for Answered<'_> {
@@ -64,7 +64,7 @@ impl fmt::Display for Entry {
     }
 }
 
-#[derive(Clone, Copy)]
+#[derive(Clone, Copy, PartialEq, Eq, Debug)]
 struct Shown(Levels);
 
 impl fmt::Display for Shown {

@@ -7,7 +7,7 @@ ghost use Rattle.std.proofs.Common.{rules};
 use crate::{MOST_CHANNELS, Stage, StageFault, can_drive, taken_count};
 
 // The array is of fixed size and the count stands beside it, since a stage is `Copy` and uses no heap.
-#[derive(Clone, Copy, Debug)]
+#[derive(Clone, Copy, PartialEq, Eq, Debug)]
 pub struct DirectStage {
     count: usize,
     levels: [u32; MOST_CHANNELS],

@@ -49,6 +49,7 @@ impl Order {
     }
 }
 
+// As where words are read, each call that needs the count of channels brings it.
 impl Table {
     pub(crate) fn module_passes(&self) -> bool
         ensures { result ≡ module_passes self.now }

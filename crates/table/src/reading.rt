@@ -47,7 +47,7 @@ impl Groups {
     }
 }
 
-// The stage alone knows how many channels are placed, so every call brings the count.
+// The stage alone knows how many channels are placed, so each call that needs the count brings it.
 impl Table {
     // The records of the first `count` channels, 12 at most.
     pub(crate) fn placed(&self, count: usize) -> &[Channel]

@@ -84,7 +84,7 @@ impl Table {
         }
     }
 
-    // Offset, word and count come from the caller one by one, and each is used alone.
+    // Offset, word and count make no value of their own: a record of them would only be taken apart again.
     fn request(&self, offset: u16, word: u16, count: usize) -> Result<Request, ModuleFault>
         ensures { result ≡ requested count self.now offset word }
     {

@@ -47,7 +47,7 @@ impl fmt::Display for UnknownModel {
 
 impl Error for UnknownModel {}
 
-// Voltage and current have each a table and a unit of their own: one function of both would answer a pair that no caller wants.
+// One function of model and quantity would be a match of both tables, of which only the currents are divided: no plainer.
 impl Model {
     pub fn volts(self) -> u32
         ensures { result ≡ nominal_volts self }
