@@ -1,12 +1,10 @@
 -- The worked examples, by computation.
 use Rattle.std.proofs.Common.{◌≡◌, ℕ, ◌*◌, ◌<◌, ◌≤◌, Bool, true, ◌&&◌, eqb, pos, sym, refl, subst, inl, inr, arith}
 use lib.Ieee.{binary32, of_bits, of_int, le, lt, sub, mul, div, neg}
-use Rattle.std.proofs.lemmas.List.{length-replicate}
 use Rattle.std.proofs.lemmas.Bool.{eqb-true, and_parts, cases_eq}
 use Rattle.values.specs.Ranges.{stored_maximum}
 use Rattle.values.specs.Steps.{limit_steps}
-use Rattle.table.specs.New.{new_channel}
-use Rattle.module.specs.RoundLawsExamples.{PercentIsPercent, NewPlaced, RisesByHundreds, StopsAtQuarter, FirstRounds}
+use Rattle.module.specs.RoundLawsExamples.{PercentIsPercent, RisesByHundreds, StopsAtQuarter, FirstRounds}
 
 -- the test f passes at each number below n
 abbrev all_below : (ℕ → Bool) → ℕ → Bool
@@ -38,9 +36,6 @@ quarter_pattern = refl
 
 pub percent_is_percent : PercentIsPercent
 percent_is_percent = record { steps = steps_of; quarter = quarter_pattern }
-
-pub new_placed : NewPlaced
-new_placed m n k few h = (omega (arith, length-replicate {A = ℕ} n 0), omega (arith, length-replicate 12 (new_channel m)))
 
 rises_by_hundreds : (regulates : Bool) → RisesByHundreds regulates
 unfolding of_bits le lt sub mul div neg
