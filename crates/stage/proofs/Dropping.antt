@@ -69,6 +69,12 @@ redropped s k x can {ls} is-ls {c} is_c {ds} is-ds =
       means = record { answer = to.answer; state = back ∙ ap (λ zs. take n (set zs k x)) is-ls ∙ to.state };
     }
 
+-- an element that is there does not depend on the default
+pub get_or_again : {T : Type 0} (xs : List T) (i : ℕ) (d : T) → get_or xs i d ≡ get_or xs i (get_or xs i d)
+get_or_again [] i d = refl
+get_or_again (x ∷ xs) zero d = refl
+get_or_again (x ∷ xs) (suc i) d = get_or_again xs i d
+
 pub highest_unset : (xs : List ℕ) (k x : ℕ) → highest xs ≤ max (get_or xs k 0) (highest (set xs k x))
 highest_unset [] k x = zero-le
 highest_unset (y ∷ ys) zero x = omega arith
