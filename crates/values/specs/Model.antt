@@ -1,5 +1,5 @@
 -- The six models and their nominal values, each the binary32 number nearest to its whole volts or milliamperes.
-use Rattle.std.specs.Prelude.{◌≡◌, ℕ, false, cond, Some, None, Option, Result, MatchResult, ◌==◌, from_bits, Float, ◌≢◌}
+use Rattle.std.specs.Prelude.{◌≡◌, ℕ, false, cond, List, ◌++◌, Some, None, Option, Result, MatchResult, ◌==◌, codes, decimal, from_bits, Float, ◌≢◌}
 use Rattle.std.specs.Result.{result_ok}
 use Rattle.std.specs.Float.{binary32}
 use Rattle.std.specs.Float.Ieee.{round}
@@ -61,3 +61,7 @@ abbrev pub FromVolts : ℕ → Result Model UnknownModel → Type 0
 FromVolts volts r =
     (result_ok r ≡ with_volts volts)
     × MatchResult r (λ m. nominal_volts m ≡ volts) (λ e. (e.volts ≡ volts) × ((m : Model) → nominal_volts m ≢ volts))
+
+-- what is told of volts that no model has
+abbrev pub unknown_text : ℕ → List ℕ
+unknown_text v = codes "no model of " ++ decimal v ++ codes " V"

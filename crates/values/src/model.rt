@@ -40,6 +40,11 @@ impl TryFrom<u32> for Model {
 }
 
 impl fmt::Display for UnknownModel {
+    ghost use Rattle.std.specs.Prelude.{Some};
+    ghost use Rattle.values.specs.Model.{unknown_text};
+
+    ghost output = { λ unknown. Some (unknown_text unknown.volts) };
+
     fn fmt<W: fmt::Write>(&self, f: &mut fmt::Formatter<W>) -> fmt::Result {
         write!(f, "no model of {} V", self.volts)
     }
