@@ -49,11 +49,18 @@ fn bench(rt: &HostRuntime) -> Result<(), Failure> {
     written.and(out.flush()).map_err(Failure::Output)
 }
 
+// Apart from `main`, so that the stack that it needs is not taken while a script runs.
+#[cold]
+#[inline(never)]
+fn tell(rt: &HostRuntime, failure: &Failure) {
+    let _ = eprintln!(rt; "{failure}");
+}
+
 fn main(rt: HostRuntime) -> ExitCode {
     match bench(&rt) {
         Ok(()) => ExitCode::SUCCESS,
         Err(failure) => {
-            let _ = eprintln!(rt; "{failure}");
+            tell(&rt, &failure);
             ExitCode::FAILURE
         }
     }
