@@ -1,3 +1,2 @@
-mod Listed
 mod Numerals
 mod Parsed

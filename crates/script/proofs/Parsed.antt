@@ -1,43 +1,15 @@
 -- Lemmas on what a text says line by line.
-use Rattle.std.proofs.Common.{◌≡◌, ℕ, ◌+◌, ◌<◌, List, [], ◌∷◌, length, get_or, drop, Ok, Err, Result, sym, refl, ap, ◌∙◌, subst, arith, MatchResult}
+use Rattle.std.proofs.Common.{◌≡◌, ℕ, ◌+◌, ◌<◌, ◌≤◌, List, [], ◌∷◌, length, get_or, drop, Ok, Err, Result, sym, refl, ap, ◌∙◌, subst, arith, MatchResult, IfErr}
 use Rattle.std.specs.Borrow.{Bor}
-use Rattle.std.specs.Result.{IsErrAnd}
 use Rattle.std.proofs.lemmas.List.{drop_more}
 use Rattle.std.proofs.lemmas.List.FromFn.{get_or-enumerate_from, length-enumerate_from}
 use Rattle.std.specs.List.{enumerate_from}
 use Rattle.script.specs.declared.fault.ScriptFault.{ScriptFault}
 use Rattle.script.specs.declared.fault.Wrong.{Wrong}
 use Rattle.script.specs.declared.reader.Script.{Script}
-use Rattle.script.specs.Faults.{bad_line, at_line, out_of_memory}
+use Rattle.script.specs.Faults.{bad_line, at_line}
 use Rattle.script.specs.Lines.{LineBy, LineRead, whole_at, Parses}
 use Rattle.script.specs.Progress.{Progress, whole_by, ended}
-use Rattle.script.specs.Words.{spelt, words_of}
-
--- a call that was refused memory
-pub refused : {A Q : Type 0} (P : A → Type 0) (r : Result A Wrong) → IsErrAnd r (λ w. w ≡ out_of_memory) → Q → MatchResult r P (λ w. (w ≡ out_of_memory) × Q)
-refused P (Ok x) e q = absurd e
-refused P (Err w) e q = (e, q)
-
-pub refused_at : {A Q : Type 0} (P : A → Type 0) (n : ℕ) (x : Result A Wrong) (y : Result A ScriptFault) (f : ScriptFault) → MatchResult x P (λ w. (w ≡ out_of_memory) × Q) → y ≡ at_line n x → y ≡ Err f → (f ≡ bad_line n out_of_memory) × Q
-refused_at P n (Ok a) y f h e is = absurd (let z : ◌≡◌ {A = ℕ} 0 1 = cc in omega arith)
-refused_at P n (Err w) y f h e is = (cc, h.1)
-
-abbrev spell : List (List ℕ) → List (Bor (List ℕ))
-spell [] = []
-spell (w ∷ ws) = record { ref_ptr = (0, 0); now = w } ∷ spell ws
-
-spelt-spell : (ws : List (List ℕ)) → spelt (spell ws) ≡ ws
-spelt-spell [] = refl
-spelt-spell (w ∷ ws) = ap (λ (l : List (List ℕ)). w ∷ l) (spelt-spell ws)
-
-module _ (p : Progress) (n : ℕ) (r : Result Progress ScriptFault) (e : r ≡ Err (bad_line n out_of_memory)) where
-  no_memory_by : (ws : List (List ℕ)) → 0 < length ws → LineBy p n (spell ws) r
-  no_memory_by [] some = absurd (omega arith)
-  no_memory_by (w ∷ ws) some = (Err out_of_memory, (λ other. absurd (other refl)), e)
-
-  -- a line with words for which there is no memory
-  pub no_memory : (line : List ℕ) → 0 < length (words_of line) → LineRead p n line r
-  no_memory line some = (spell (words_of line), spelt-spell (words_of line), no_memory_by (words_of line) some)
 
 -- where the k-th line is among the numbered lines
 numbered : (ls : List (List ℕ)) (k i : ℕ) (l : List ℕ) → (k < length (enumerate_from 0 ls)) × ((i, l) ≡ get_or (enumerate_from 0 ls) k (i, l)) → (k < length ls) × (i ≡ k) × (l ≡ get_or ls k l)
@@ -62,3 +34,22 @@ whole_of n (Err w) = refl
 
 pub ends : (n : ℕ) (p : Progress) (x : Result Script Wrong) (r : Result Script ScriptFault) → r ≡ at_line n x → whole_by x ≡ ended p → Parses n p [] r
 ends n p x r e f = ap whole_at e ∙ whole_of n x ∙ ap (at_line n) f
+
+-- a fault of the line n names it
+fault_line : {T : Type 0} (n : ℕ) (x : Result T Wrong) (f : ScriptFault) (r : Result T ScriptFault) → r ≡ Err f → r ≡ at_line n x → f.line ≡ n
+fault_line n (Ok y) f r is e = cc
+fault_line n (Err w) f r is e = let same : f ≡ bad_line n w = cc in ap (λ (g : ScriptFault). g.line) same
+
+named_by : (p : Progress) (n : ℕ) (ws : List (Bor (List ℕ))) (f : ScriptFault) → LineBy p n ws (Err f) → f.line ≡ n
+named_by p n [] f h = absurd h
+named_by p n (w ∷ ws) f h = fault_line n h.0 f (Err f) refl h.2
+
+by_line : (n : ℕ) (p : Progress) (l : List ℕ) (ls : List (List ℕ)) (r : Result Script ScriptFault) → ((q : Progress) → Parses (n + 1) q ls r → IfErr r (λ f. 0 < f.line)) → 1 ≤ n → (x : Result Progress ScriptFault) → LineRead p n l x → MatchResult x (λ q. Parses (n + 1) q ls r) (λ f. r ≡ Err f) → IfErr r (λ f. 0 < f.line)
+by_line n p l ls r ih low (Ok q) read k = ih q k
+by_line n p l ls r ih low (Err f) read e = subst (λ (s : Result Script ScriptFault). IfErr s (λ g. 0 < g.line)) (sym e) (omega (arith, named_by p n read.0 f read.2))
+
+-- lines are counted from 1
+pub parses_numbered : (n : ℕ) (p : Progress) (ls : List (List ℕ)) (r : Result Script ScriptFault) → 1 ≤ n → Parses n p ls r → IfErr r (λ f. 0 < f.line)
+parses_numbered n p [] (Ok x) low h = tt
+parses_numbered n p [] (Err f) low h = omega (arith, fault_line n (ended p) f (Err f) refl h)
+parses_numbered n p (l ∷ ls) r low h = by_line n p l ls r (λ q k. parses_numbered (n + 1) q ls r (omega arith) k) low h.0 h.1 h.2

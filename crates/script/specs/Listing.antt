@@ -9,17 +9,12 @@ use Rattle.script.specs.declared.command.StageKind.{StageKind}
 use Rattle.script.specs.declared.command.StageKind.TheVariants.{Direct, Distributor}
 use Rattle.script.specs.declared.listing.Echo.{Echo}
 use Rattle.script.specs.declared.listing.Echo.TheVariants as echo
-use Rattle.script.specs.declared.listing.Entry.{Entry}
 
 abbrev pub echo_of : Call → Echo
 echo_of (call.Read o) = echo.Read o
 echo_of (call.Write o w) = echo.Write o w
 echo_of (call.Block xs) = echo.Block
 echo_of (call.Round c rs) = echo.Round (vec_len rs)
-
--- a call, with what it was answered
-abbrev pub entry_of : Echo × Reply → Entry
-entry_of p = record { echo = p.0; reply = p.1 }
 
 -- whether stages of the kind regulate current
 abbrev pub regulates : StageKind → Bool
@@ -32,5 +27,5 @@ done_by (written r) = is_ok r
 done_by (ended e xs) = is_ok e
 done_by (turned r) = is_ok r
 
-abbrev pub done_count : List Entry → ℕ
-done_count es = count_by (λ e. done_by (said_by e.reply.answer)) es
+abbrev pub done_count : List Reply → ℕ
+done_count rs = count_by (λ r. done_by (said_by r.answer)) rs

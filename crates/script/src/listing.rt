@@ -1,10 +1,9 @@
 // The run of a script, and what is listed of it.
 ghost use Rattle.std.specs.Prelude.{◌≡◌, ◌≤◌, map, length, IfOk};
-ghost use Rattle.std.specs.List.{zip};
 ghost use Rattle.stage.specs.Levels.{taken};
 ghost use Rattle.module.specs.State.{new_state};
 ghost use Rattle.runs.specs.Calls.{asked, told, said_by, run_told};
-ghost use Rattle.script.specs.Listing.{echo_of, entry_of, regulates, done_by, done_count};
+ghost use Rattle.script.specs.Listing.{echo_of, regulates, done_by, done_count};
 
 use crate::command::{Setup, StageKind};
 use crate::reader::Script;
@@ -22,17 +21,19 @@ pub enum Echo {
     Round { readings: usize },
 }
 
-// A call, with what it was answered.
-#[derive(Drop)]
-pub struct Entry {
-    pub echo: Echo,
-    pub reply: Reply,
-}
-
+// The echo of each call and its reply stand in two lists: a list of both would be a copy of the replies, which `run` answers.
 #[derive(Drop)]
 pub struct Listing {
     pub setup: Setup,
-    pub entries: Vec<Entry>,
+    pub echoes: Vec<Echo>,
+    pub replies: Vec<Reply>,
+}
+
+// A call, with what it was answered.
+#[derive(Clone, Copy, Debug)]
+pub struct Entry<'a> {
+    pub echo: Echo,
+    pub reply: &'a Reply,
 }
 
 impl From<&Call> for Echo {
@@ -83,32 +84,20 @@ fn replies_of(heap: Global, setup: Setup, calls: Vec<Call>) -> Result<Vec<Reply>
     }
 }
 
-// `run` takes the calls, so their echoes are listed before it and paired with the replies after it.
-fn entries_of(
-    heap: Global,
-    echoes: Vec<Echo>,
-    replies: Vec<Reply>,
-) -> Result<Vec<Entry>, AllocError>
-    ensures { IfOk result (λ v. v.items ≡ map entry_of (zip echoes.items replies.items)) }
-{
-    echoes
-        .into_iter()
-        .zip(replies)
-        .map(|(echo, reply)| Entry { echo, reply })
-        .collect(heap)
-}
-
-// Runs the calls of a script on its module.
+// Runs the calls of a script on its module. After the first call no memory is asked for.
 pub fn perform(heap: Global, script: Script) -> Result<Listing, AllocError>
     ensures setup { IfOk result (λ x. x.setup ≡ script.setup) }
-    ensures echoes { IfOk result (λ x. map (λ e. e.echo) x.entries.items ≡ map echo_of script.calls.items) }
-    ensures replies { IfOk result (λ x. map (λ e. told e.reply) x.entries.items ≡ run_told (regulates script.setup.stage) (new_state script.setup.model (taken script.setup.count)) (map asked script.calls.items)) }
+    ensures echoes { IfOk result (λ x. x.echoes.items ≡ map echo_of script.calls.items) }
+    ensures replies { IfOk result (λ x. map told x.replies.items ≡ run_told (regulates script.setup.stage) (new_state script.setup.model (taken script.setup.count)) (map asked script.calls.items)) }
 {
     let Script { setup, calls } = script;
     let echoes = echoes_of(heap, calls.as_slice())?;
     let replies = replies_of(heap, setup, calls)?;
-    let entries = entries_of(heap, echoes, replies)?;
-    Ok(Listing { setup, entries })
+    Ok(Listing {
+        setup,
+        echoes,
+        replies,
+    })
 }
 
 // Whether the call was done; a block is done if all of its accesses are.
@@ -123,12 +112,12 @@ fn is_done(answer: &Answer) -> bool
 }
 
 // How many of the calls were done.
-pub(crate) fn done_count(entries: &[Entry]) -> usize
-    ensures count { result ≡ done_count entries.now }
-    ensures bound { result ≤ length entries.now }
+pub(crate) fn done_count(replies: &[Reply]) -> usize
+    ensures count { result ≡ done_count replies.now }
+    ensures bound { result ≤ length replies.now }
 {
-    entries
+    replies
         .iter()
-        .filter(|entry| is_done(&entry.reply.answer))
+        .filter(|reply| is_done(&reply.answer))
         .count()
 }

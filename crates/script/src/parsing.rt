@@ -6,18 +6,19 @@ ghost use Rattle.script.specs.Progress.{progress, nothing};
 
 use crate::fault::{ScriptFault, Wrong, at_line};
 use crate::reader::{Reader, Script};
-use crate::words::words_of;
+use crate::words::Words;
 use std::alloc::Global;
 
 // One more line; without words it is passed over.
 fn read_line(heap: Global, reader: Reader, line: usize, text: &str) -> Result<Reader, ScriptFault>
     ensures { LineRead reader line text.now result }
 {
-    let words = at_line(line, words_of(heap, text))?;
+    let words = Words::of(text);
+    let words = words.as_slice();
     if words.is_empty() {
         return Ok(reader);
     }
-    at_line(line, reader.take(heap, words.as_slice()))
+    at_line(line, reader.take(heap, words))
 }
 
 pub fn parse(heap: Global, text: &str) -> Result<Script, ScriptFault>

@@ -58,9 +58,18 @@ impl fmt::Display for Echo {
     }
 }
 
-impl fmt::Display for Entry {
+// The answer to another kind of call has no text beside this one.
+impl fmt::Display for Entry<'_> {
     fn fmt<W: fmt::Write>(&self, f: &mut Formatter<W>) -> fmt::Result {
-        write!(f, "{}{}", self.echo, Answered(&self.reply.answer))
+        match (self.echo, &self.reply.answer) {
+            (Echo::Read { .. }, Answer::Read(_))
+            | (Echo::Write { .. }, Answer::Write(_))
+            | (Echo::Block, Answer::Block { .. })
+            | (Echo::Round { .. }, Answer::Round(_)) => {
+                write!(f, "{}{}", self.echo, Answered(&self.reply.answer))
+            }
+            _ => Err(fmt::Error),
+        }
     }
 }
 
@@ -89,16 +98,17 @@ impl fmt::Display for Listing {
             count,
             steps: [0; MOST_CHANNELS],
         };
-        for entry in &self.entries {
-            writeln!(f, "{entry}")?;
-            if entry.reply.levels != shown {
-                shown = entry.reply.levels;
+        for (echo, reply) in self.echoes.iter().zip(&self.replies) {
+            writeln!(f, "{}", Entry { echo: *echo, reply })?;
+            // All are of one module, so their counts are the same.
+            if reply.levels.steps != shown.steps {
+                shown = reply.levels;
                 writeln!(f, "{}", Shown(shown))?;
             }
         }
         writeln!(f, "{}", Shown(shown))?;
-        let calls = self.entries.len();
-        let done = done_count(self.entries.as_slice());
+        let calls = self.replies.len();
+        let done = done_count(self.replies.as_slice());
         writeln!(f, "{calls} calls: {done} done, {} refused", calls - done)
     }
 }

@@ -3,9 +3,14 @@
 
 #[cfg(test)]
 mod tests {
-    use script::{parse, perform};
+    use module::Levels;
+    use runs::{Answer, Call, Reply};
+    use script::listing::{Echo, Entry};
+    use script::{Script, Setup, StageKind, parse, perform};
     use std::alloc::Global;
+    use std::fmt::Write;
     use std::test::Fail;
+    use values::Model;
 
     fn said(heap: Global, text: &str) -> Result<String, Fail> {
         match parse(heap, text) {
@@ -78,6 +83,45 @@ mod tests {
         for (text, expected) in cases {
             assert_eq!(rt; said(rt.alloc(), text)?.as_str(), expected);
         }
+        Ok(())
+    }
+
+    // A count that `parse` does not give is shown as it is, and levels only where the steps are others.
+    #[test]
+    fn script_by_hand(rt: HostRuntime) -> Result<(), Fail> {
+        let mut calls = Vec::new(rt.alloc());
+        calls.push(Call::Read { offset: 0 })?;
+        let setup = Setup {
+            model: Model::V2000,
+            stage: StageKind::Direct,
+            count: 0,
+        };
+        let listing = perform(rt.alloc(), Script { setup, calls })?;
+        assert_eq!(rt;
+            listing.to_string(rt.alloc())?.as_str(),
+            "module 2000 direct 0\nread 0000: 7700\nlevels\n1 calls: 1 done, 0 refused\n"
+        );
+        Ok(())
+    }
+
+    // An answer to another kind of call is an error, and nothing is written.
+    #[test]
+    fn entry_by_hand(rt: HostRuntime) -> Result<(), Fail> {
+        let reply = Reply {
+            answer: Answer::Write(Ok(())),
+            levels: Levels {
+                count: 1,
+                steps: [0; 12],
+            },
+        };
+        let mut text = String::new(rt.alloc());
+        let entry = Entry {
+            echo: Echo::Read { offset: 0 },
+            reply: &reply,
+        };
+        let refused = write!(text, "{entry}").is_err();
+        assert!(rt; refused);
+        assert_eq!(rt; text.as_str(), "");
         Ok(())
     }
 }

@@ -1,16 +1,15 @@
-use Rattle.std.proofs.Common.{ℕ, not, eqb, List, length, ap, ◌∙◌, arith, rules, tests, Bor}
+use Rattle.std.proofs.Common.{ℕ, refl, not, eqb, List, length, ap, ◌∙◌, arith, rules, tests, Bor}
 use Rattle.std.proofs.lemmas.Iterator.{YieldsList-from_take}
 use Rattle.std.proofs.lemmas.Iterator.Adapters.{YieldsList-from_flat_map}
-use Rattle.std.proofs.lemmas.Iterator.Consumers.{YieldsList-at, YieldsList-from_filter, YieldsList-turn, YieldsList-end}
+use Rattle.std.proofs.lemmas.Iterator.Consumers.{YieldsList-at, YieldsList-from_filter, YieldsList-end}
 use Rattle.std.proofs.lemmas.Iterator.Splits.{YieldsList-from_str_split}
 use Rattle.std.specs.List.{slice_split}
 use Rattle.script.specs.Words.{spelt, before_comment}
-use Rattle.script.proofs.Parsed.{refused}
-use Rattle.script.proofs.words.words_of.Goals as goal
+use Rattle.script.proofs.words.Words.of.Goals as goal
 
 pub loop-word-init : goal.loop-word-init
 loop-word-init c = (
-  c.new-words.ensures.items,
+  refl,
   YieldsList-at c.into_iter-word-iterator.ensures.into_iter_gives
       (YieldsList-from_take 8
       (YieldsList-at c.take-found.ensures.source
@@ -24,12 +23,7 @@ loop-word-init c = (
       c.take-found.ensures.count),
 )
 
-pub returns-in_err-push : goal.returns-in_err-push
-returns-in_err-push c =
-    let turn = YieldsList-turn c.loop-word.invariant.1 c.loop-word.yielded _ c.loop-word.yielded_by _ _ c.in-Some.word c.in-Some.is c.next.ensures.steps in
-    refused _ c.from_residual.result c.from_residual.ensures.1 (omega (arith, turn.0))
-
-pub returns : goal.returns
-returns c =
+pub returns-clause-words : goal.returns-clause-words
+returns-clause-words c =
     let whole = YieldsList-end c.loop-word.invariant.1 c.loop-word.yielded _ c.loop-word.yielded_by _ _ c.in-None.is c.next.ensures.steps in
     ap spelt c.loop-word.invariant.0 ∙ whole.0
