@@ -58,7 +58,7 @@ impl fmt::Display for Echo {
     }
 }
 
-// The answer to another kind of call has no text beside this one.
+// An answer to another kind of call is an error.
 impl fmt::Display for Entry<'_> {
     fn fmt<W: fmt::Write>(&self, f: &mut Formatter<W>) -> fmt::Result {
         match (self.echo, &self.reply.answer) {
